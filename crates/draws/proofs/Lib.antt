@@ -1,0 +1,3 @@
+pub mod Draws
+pub mod Fairness
+pub mod Lists

@@ -1,0 +1,12 @@
+-- The number that each fault is refused by. Assumes nothing.
+use Prim.Native.Nat.{ℕ}
+use Rattle.draws.specs.declared.faults.DrawBitsFault.{DrawBitsFault}
+use Rattle.draws.specs.declared.faults.DrawBitsFault.the-variants.{OutOfRange}
+use Rattle.draws.specs.declared.faults.SourceFault.{SourceFault}
+use Rattle.draws.specs.declared.faults.SourceFault.the-variants.{Exhausted}
+
+abbrev pub draw-bits-refusal : DrawBitsFault → ℕ
+draw-bits-refusal OutOfRange = 2
+
+abbrev pub source-refusal : SourceFault → ℕ
+source-refusal Exhausted = 8

@@ -1,0 +1,64 @@
+// Decision rules.
+ghost use mathlib.Core.Path.{_≡_};
+ghost use Prim.Native.Nat.{ℕ, _^_, _<_};
+ghost use mathlib.Core.Bool.{Bool, true, false};
+ghost use Rattle.std.specs.declared.option.Option.the-variants.{Some, None};
+ghost use Rattle.draws.specs.Rules.{is-far, in-range, Fair, Near-outside, compares, carries};
+use crate::draw_bits::DrawBits;
+
+// One of the two numbers around an exact result.
+#[derive(Clone, Copy, PartialEq, Eq, Debug)]
+pub enum Neighbour {
+    Near,
+    Far,
+}
+
+pub trait Rule {
+    ghost says: { Self → ℕ → ℕ → ℕ → Bool };
+
+    law fair: { (s : Self) → Fair (says s) };
+
+    law outside: { (s : Self) → Near-outside (says s) };
+
+    fn choose(&self, k: u64, count: u64, draw: u64) -> Neighbour
+        ensures { λ r. ⌜ is-far r ≡ says (now (self .entry)) k count draw ⌝ };
+}
+
+// 2^k, where k, count and draw are in range.
+fn draws_in_range(k: u64, count: u64, draw: u64) -> Option<u64>
+    ensures { λ r. ⌜ elim r [ Some draws ↦ (in-range k count draw ≡ true) × (draws ≡ 2 ^ k) × (draws < 2 ^ 33) × (count < draws) × (draw < draws) | None ↦ in-range k count draw ≡ false ] ⌝ }
+{
+    let Ok(bits) = DrawBits::new(k) else {
+        return None;
+    };
+    let draws = bits.draws();
+    if count < draws && draw < draws { Some(draws) } else { None }
+}
+
+#[derive(Clone, Copy)]
+pub struct Comparison;
+
+pub impl Rule for Comparison as ComparisonRule {
+    ghost says = { λ _. compares };
+
+    fn choose(&self, k: u64, count: u64, draw: u64) -> Neighbour {
+        match draws_in_range(k, count, draw) {
+            Some(_) if draw < count => Neighbour::Far,
+            _ => Neighbour::Near,
+        }
+    }
+}
+
+#[derive(Clone, Copy)]
+pub struct Carry;
+
+pub impl Rule for Carry as CarryRule {
+    ghost says = { λ _. carries };
+
+    fn choose(&self, k: u64, count: u64, draw: u64) -> Neighbour {
+        match draws_in_range(k, count, draw) {
+            Some(draws) if draw + count >= draws => Neighbour::Far,
+            _ => Neighbour::Near,
+        }
+    }
+}

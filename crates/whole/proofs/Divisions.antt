@@ -1,0 +1,39 @@
+-- The laws of division rounded down. Assumes nothing.
+use mathlib.Core.Path.{_≡_, refl, sym, ap, _∙_}
+use mathlib.Core.Logic.{⊎-elim}
+use Prim.Native.Nat.{ℕ, zero, suc, _+_, _-_, _*_, _/_, _%_, _<_, _≤_}
+use native.Mathlib.Nat.{suc-mul}
+use native.Mathlib.Omega.{arith}
+use lib.IntN.{ℤ, pos, negsuc, _+ℤ_, _*ℤ_}
+use Rattle.std.proofs.shelf.Signed.{ints}
+use Rattle.std.proofs.shelf.Bits.{div-add-mod', mod-below, div-mul-add, mod-mul-add}
+use Rattle.whole.specs.Division.{floor, modulo, Divided, Divides}
+
+-- the floor and the remainder are a quotient and a rest
+pub floor-holds : (x : ℤ) (d : ℕ) → 0 < d → Divided x d (floor x d) (modulo x d)
+floor-holds (pos a) d h = record { whole = ap pos (sym (div-add-mod' a d)); rest = mod-below a d h }
+floor-holds (negsuc a) d h =
+    record { whole = omega (arith, ints, div-add-mod' a d, mod-below a d h, suc-mul (a / d) d); rest = omega arith }
+
+-- the quotient and the rest of a number at least 0, and below 0
+natural-only : (a d r : ℕ) (q : ℤ) → Divided (pos a) d q r → (q ≡ pos (a / d)) × (r ≡ a % d)
+natural-only a d r (pos q) e =
+    let whole : q * d + r ≡ a = omega (arith, ints, e .whole) in
+    (ap pos (sym (div-mul-add q d r (e .rest)) ∙ ap (λ (m : ℕ). m / d) whole), sym (mod-mul-add q d r (e .rest)) ∙ ap (λ (m : ℕ). m % d) whole)
+natural-only a d r (negsuc q) e = absurd (omega (arith, ints, e .whole, e .rest, suc-mul q d))
+
+negative-only : (a d r : ℕ) (q : ℤ) → Divided (negsuc a) d q r → (q ≡ negsuc (a / d)) × (r ≡ (d - 1) - a % d)
+negative-only a d r (pos q) e = absurd (omega (arith, ints, e .whole))
+negative-only a d r (negsuc q) e =
+    let lt : (d - 1) - r < d = omega (arith, e .rest) in
+    let whole : q * d + ((d - 1) - r) ≡ a = omega (arith, ints, e .whole, e .rest, suc-mul q d) in
+    let low : a % d ≡ (d - 1) - r = ap (λ (m : ℕ). m % d) (sym whole) ∙ mod-mul-add q d ((d - 1) - r) lt in
+    (ap negsuc (sym (div-mul-add q d ((d - 1) - r) lt) ∙ ap (λ (m : ℕ). m / d) whole), omega (arith, e .rest))
+
+-- and no others are
+pub floor-only : (x : ℤ) (d : ℕ) (q : ℤ) (r : ℕ) → Divided x d q r → (q ≡ floor x d) × (r ≡ modulo x d)
+floor-only (pos a) d q r e = natural-only a d r q e
+floor-only (negsuc a) d q r e = negative-only a d r q e
+
+pub divides : (x : ℤ) (d : ℕ) → 0 < d → Divides x d
+divides x d h = record { holds = floor-holds x d h; only = floor-only x d }
