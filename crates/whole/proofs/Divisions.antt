@@ -2,11 +2,12 @@
 use mathlib.Core.Path.{_≡_, refl, sym, ap, _∙_}
 use mathlib.Core.Logic.{⊎-elim}
 use Prim.Native.Nat.{ℕ, zero, suc, _+_, _-_, _*_, _/_, _%_, _<_, _≤_}
-use native.Mathlib.Nat.{suc-mul}
+use native.Mathlib.Nat.{suc-mul, add-mul}
 use native.Mathlib.Omega.{arith}
 use lib.IntN.{ℤ, pos, negsuc, _+ℤ_, _*ℤ_}
+use lib.Signed.{shrZ}
 use Rattle.std.proofs.shelf.Signed.{ints}
-use Rattle.std.proofs.shelf.Bits.{div-add-mod', mod-below, div-mul-add, mod-mul-add}
+use Rattle.std.proofs.shelf.Bits.{div-add-mod', mod-below, div-below, div-mul-add, mod-mul-add}
 use Rattle.whole.specs.Division.{floor, modulo, Divided, Divides}
 
 -- the floor and the remainder are a quotient and a rest
@@ -37,3 +38,19 @@ floor-only (negsuc a) d q r e = negative-only a d r q e
 
 pub divides : (x : ℤ) (d : ℕ) → 0 < d → Divides x d
 divides x d h = record { holds = floor-holds x d h; only = floor-only x d }
+
+-- a shift that copies the sign bit rounds down
+pub shift-floor : (x : ℤ) (d : ℕ) → shrZ x d ≡ floor x d
+shift-floor (pos a) d = refl
+shift-floor (negsuc a) d = refl
+
+-- the remainder of what a lacks of m * d
+pub lacking-mod : (m d a : ℕ) → 0 < d → a < m * d → (m * d - suc a) % d ≡ (d - 1) - a % d
+lacking-mod m d a h lt =
+    let q : ℕ = m - suc (a / d) in
+    let fits : a / d < m = div-below a d m h lt in
+    let parts : m ≡ suc (a / d) + q = omega arith in
+    let low : a % d < d = mod-below a d h in
+    let whole : m * d ≡ suc (a / d) * d + q * d = ap (λ (t : ℕ). t * d) parts ∙ add-mul (suc (a / d)) q d in
+    let split : q * d + ((d - 1) - a % d) ≡ m * d - suc a = omega (arith, div-add-mod' a d, suc-mul (a / d) d) in
+    sym (ap (λ (t : ℕ). t % d) split) ∙ mod-mul-add q d ((d - 1) - a % d) (omega arith)

@@ -1,0 +1,4 @@
+pub mod Modes
+pub mod Refusals
+pub mod Rounding
+pub mod Laws

@@ -1,0 +1,36 @@
+// The rounding modes.
+ghost use mathlib.Core.Path.{_≡_};
+ghost use Prim.Native.Nat.{ℕ, _<_};
+ghost use Rattle.std.specs.declared.option.Option.the-variants.{Some, None};
+ghost use Rattle.unit.specs.Modes.{mode-number};
+
+#[derive(Clone, Copy, PartialEq, Eq, Debug)]
+pub enum Mode {
+    Down,
+    Nearest,
+    Stochastic,
+}
+
+impl Mode {
+    // The mode of a number, if it is one's.
+    pub fn from_number(number: u64) -> Option<Mode>
+        ensures { λ r. ⌜ elim r [ Some mode ↦ mode-number mode ≡ number | None ↦ 2 < number ] ⌝ }
+    {
+        match number {
+            0 => Some(Mode::Down),
+            1 => Some(Mode::Nearest),
+            2 => Some(Mode::Stochastic),
+            _ => None,
+        }
+    }
+
+    pub fn number(self) -> u64
+        ensures { λ r. ⌜ r ≡ mode-number self ⌝ }
+    {
+        match self {
+            Mode::Down => 0,
+            Mode::Nearest => 1,
+            Mode::Stochastic => 2,
+        }
+    }
+}
