@@ -1,7 +1,7 @@
 // The rounding unit.
 mod faults;
 mod modes;
-mod rounding;
+mod division;
 mod settings;
 
 pub use faults::SettingsFault;

@@ -4,7 +4,7 @@ use mathlib.Core.Logic.{⊎-elim}
 use Prim.Native.Nat.{ℕ, zero, suc, _+_, _-_, _*_, _/_, _%_, _<_, _≤_}
 use native.Mathlib.Nat.{suc-mul, add-mul}
 use native.Mathlib.Omega.{arith}
-use lib.IntN.{ℤ, pos, negsuc, _+ℤ_, _*ℤ_}
+use lib.IntN.{ℤ, pos, negsuc, sucℤ, _+ℤ_, _*ℤ_, +ℤ-one, sucℤ-*ℤ}
 use lib.Signed.{shrZ}
 use Rattle.std.proofs.shelf.Signed.{ints}
 use Rattle.std.proofs.shelf.Bits.{div-add-mod', mod-below, div-below, div-mul-add, mod-mul-add}
@@ -54,3 +54,21 @@ lacking-mod m d a h lt =
     let whole : m * d ≡ suc (a / d) * d + q * d = ap (λ (t : ℕ). t * d) parts ∙ add-mul (suc (a / d)) q d in
     let split : q * d + ((d - 1) - a % d) ≡ m * d - suc a = omega (arith, div-add-mod' a d, suc-mul (a / d) d) in
     sym (ap (λ (t : ℕ). t % d) split) ∙ mod-mul-add q d ((d - 1) - a % d) (omega arith)
+
+-- One more, times d.
+next-times : (q : ℤ) (d : ℕ) → (q +ℤ pos 1) *ℤ pos d ≡ q *ℤ pos d +ℤ pos d
+next-times q d = ap (λ (z : ℤ). z *ℤ pos d) (+ℤ-one q) ∙ sucℤ-*ℤ q (pos d)
+
+-- h more than x, divided by 2 * h: the floor stays where the remainder is below h, and else is one more
+pub floor-stays : (x : ℤ) (h : ℕ) → modulo x (2 * h) < h → floor (x +ℤ pos h) (2 * h) ≡ floor x (2 * h)
+floor-stays x h lt =
+    let e = floor-holds x (2 * h) (omega arith) in
+    let whole : x +ℤ pos h ≡ floor x (2 * h) *ℤ pos (2 * h) +ℤ pos (modulo x (2 * h) + h) = omega (arith, ints, e .whole) in
+    sym (floor-only (x +ℤ pos h) (2 * h) (floor x (2 * h)) (modulo x (2 * h) + h) (record { whole = whole; rest = omega arith }) .0)
+
+pub floor-rises : (x : ℤ) (h : ℕ) → 0 < h → h ≤ modulo x (2 * h) → floor (x +ℤ pos h) (2 * h) ≡ floor x (2 * h) +ℤ pos 1
+floor-rises x h some le =
+    let e = floor-holds x (2 * h) (omega arith) in
+    let q : ℤ = floor x (2 * h) in
+    let whole : x +ℤ pos h ≡ (q +ℤ pos 1) *ℤ pos (2 * h) +ℤ pos (modulo x (2 * h) - h) = omega (arith, ints, e .whole, next-times q (2 * h)) in
+    sym (floor-only (x +ℤ pos h) (2 * h) (q +ℤ pos 1) (modulo x (2 * h) - h) (record { whole = whole; rest = omega (arith, e .rest) }) .0)
