@@ -33,6 +33,12 @@ quotient Stochastic n k x d = floor x (2 ^ n) +ℤ pos (cond (compares k (far-co
 abbrev pub rounded : Mode → ℕ → ℕ → ℤ → ℕ → ℤ
 rounded mode n k x d = clamped (quotient mode n k x d)
 
+-- the stochastic quotient by the draw of the next word, which is taken; where none is left, refusal 8, and the source is as before
+abbrev pub Draws-quotient : {S : Type 0} → (S → Stream) → ℕ → ℕ → ℤ → S → S → Result ℤ SourceFault → Type 0
+Draws-quotient coming n k x before after (Ok v) =
+    (coming before .left 1 ≡ true) × (v ≡ quotient Stochastic n k x (draw k (coming before .word 0))) × (coming after ≡ rest (coming before))
+Draws-quotient coming n k x before after (Err e) = (coming before .left 1 ≡ false) × (source-refusal e ≡ 8) × (after ≡ before)
+
 -- what a rounding leaves of the source: all of it, but for the stochastic mode, which takes a word
 abbrev pub Leaves : {S : Type 0} → (S → Stream) → Mode → S → S → Type 0
 Leaves coming Down before after = after ≡ before

@@ -1,0 +1,27 @@
+-- Sums over a list. Assumes nothing.
+use mathlib.Core.Bool.{Bool, true, false, cond}
+use mathlib.Core.List.{List, [], _∷_}
+use mathlib.Core.Path.{_≡_, refl, sym, ap, ap₂, _∙_}
+use Prim.Native.Nat.{ℕ, zero, suc, _+_}
+use native.Mathlib.Omega.{arith}
+use lib.IntN.{ℤ, pos, _+ℤ_, _*ℤ_, sucℤ-*ℤ, zero-*ℤ, +ℤ-idl}
+use lib.ListN.{length}
+use Rattle.std.proofs.shelf.Signed.{ints}
+use Rattle.whole.specs.Sums.{sumℤ, count, below}
+
+-- terms that are equal have equal sums
+pub sumℤ-same : {X : Type 0} (f g : X → ℤ) → ((x : X) → f x ≡ g x) → (xs : List X) → sumℤ f xs ≡ sumℤ g xs
+sumℤ-same f g e [] = refl
+sumℤ-same f g e (x ∷ xs) = ap₂ (λ (a b : ℤ). a +ℤ b) (e x) (sumℤ-same f g e xs)
+
+-- q for each element, and one more for each that passes
+pub sumℤ-passed : {X : Type 0} (p : X → Bool) (q : ℤ) (xs : List X) → sumℤ (λ x. q +ℤ pos (cond (p x) 1 0)) xs ≡ pos (length xs) *ℤ q +ℤ pos (count p xs)
+sumℤ-passed p q [] = sym (ap (λ (z : ℤ). z +ℤ pos 0) (zero-*ℤ q))
+sumℤ-passed p q (x ∷ xs) =
+    let before : sumℤ (λ y. q +ℤ pos (cond (p y) 1 0)) xs ≡ pos (length xs) *ℤ q +ℤ pos (count p xs) = sumℤ-passed p q xs in
+    let more : pos (suc (length xs)) *ℤ q ≡ pos (length xs) *ℤ q +ℤ q = sucℤ-*ℤ (pos (length xs)) q in
+    omega (arith, ints)
+
+pub length-below : (n : ℕ) → length (below n) ≡ n
+length-below zero = refl
+length-below (suc n) = ap suc (length-below n)
