@@ -20,3 +20,8 @@ count p xs = sum (λ x. cond (p x) 1 0) xs
 abbrev pub below : ℕ → List ℕ
 below zero = []
 below (suc n) = n ∷ below n
+
+-- the n numbers from `first` on, the last of them first
+abbrev pub span : ℕ → ℕ → List ℕ
+span first zero = []
+span first (suc n) = (first + n) ∷ span first n
