@@ -9,14 +9,17 @@ use lib.Signed.{_≤ℤ_}
 use mir.Syntax.{w32}
 use mir.Val.{SFits, toZ, ofZ}
 use Rattle.std.proofs.shelf.Signed.{ints}
+use Rattle.std.specs.declared.result.Result.{Result}
+use Rattle.std.specs.declared.result.Result.the-variants.{Ok, Err}
 use Rattle.whole.specs.Sums.{sumℤ, span}
+use Rattle.draws.specs.declared.faults.SourceFault.{SourceFault}
 use Rattle.draws.specs.DrawBits.{draw}
 use Rattle.draws.specs.Rules.{compares}
 use Rattle.draws.specs.Streams.{Stream, Listed, rest}
 use Rattle.unit.specs.declared.modes.Mode.{Mode}
 use Rattle.unit.specs.declared.modes.Mode.the-variants.{Down, Nearest, Stochastic}
 use Rattle.unit.specs.Rounding.{rounded, far-count, Leaves}
-use Rattle.series.specs.Harmonic.{term, series, skipped, Leaves-all}
+use Rattle.series.specs.Harmonic.{term, series, skipped, Leaves-all, Sums, Sums-surely}
 
 pub series-none : (mode : Mode) (k : ℕ) (word : ℕ → ℕ) → series mode k word 0 ≡ pos 128
 unfolding series
@@ -114,3 +117,12 @@ module _ {S : Type 0} (coming : S → Stream) (k m : ℕ) (before now : S) where
   word-left l lt enough e =
       let place : (998 - m) + (m + 1) ≡ 999 = omega arith in
       ap (λ (s : Stream). s .left 1) e ∙ skipped-left m 1 (coming before) ∙ fewer-left (coming before) l (998 - m) (m + 1) (ap (coming before .left) place ∙ enough)
+
+-- a sum that is never refused, under settings that are the ones asked for
+pub sums-asked : {S : Type 0} (coming : S → Stream) {mode mode′ : Mode} {k k′ : ℕ} (before after : S) (r : Result ℤ SourceFault) → mode ≡ mode′ → k ≡ k′ → Sums-surely coming mode k before after r → Sums coming mode′ k′ before after r
+sums-asked coming {mode} {mode′} {k} {k′} before after r same bits h =
+    subst (λ (a : Mode). Sums coming a k′ before after r) same (subst (λ (b : ℕ). Sums coming mode b before after r) bits (surely r h))
+  where
+    surely : (r : Result ℤ SourceFault) → Sums-surely coming mode k before after r → Sums coming mode k before after r
+    surely (Ok v) h = h
+    surely (Err e) h = absurd h

@@ -37,6 +37,11 @@ Leaves-all coming Down m before after = after ≡ before
 Leaves-all coming Nearest m before after = after ≡ before
 Leaves-all coming Stochastic m before after = coming after ≡ skipped m (coming before)
 
+-- the sum of the series, with no refusal
+abbrev pub Sums-surely : {S : Type 0} → (S → Stream) → Mode → ℕ → S → S → Result ℤ SourceFault → Type 0
+Sums-surely coming mode k before after (Ok v) = (v ≡ harmonic mode k (coming before .word)) × Leaves-all coming mode 999 before after
+Sums-surely coming mode k before after (Err e) = ⊥
+
 -- The sum of the series; in the stochastic mode refusal 8 where fewer than 999 words are left, and the source is as before.
 abbrev pub Sums : {S : Type 0} → (S → Stream) → Mode → ℕ → S → S → Result ℤ SourceFault → Type 0
 Sums coming mode k before after (Ok v) = (v ≡ harmonic mode k (coming before .word)) × Leaves-all coming mode 999 before after

@@ -2,9 +2,8 @@
 ghost use mathlib.Core.Bool.{true};
 ghost use mathlib.Core.Path.{_≡_};
 ghost use Prim.Native.Nat.{ℕ};
-ghost use Rattle.std.specs.declared.result.Result.the-variants.{Ok, Err};
 ghost use Rattle.unit.specs.declared.modes.Mode.the-variants.{Stochastic};
-ghost use Rattle.series.specs.Harmonic.{harmonic, Leaves-all, Sums, Values};
+ghost use Rattle.series.specs.Harmonic.{Sums, Sums-surely, Values};
 use draws::Source;
 use draws::SourceFault;
 use unit::Mode;
@@ -15,11 +14,28 @@ use unit::Stretch;
 // 1 and the rounded terms 1/2 to 1/1000.
 fn rounded_terms<S: Source>(stretch: &Stretch<'_>, source: &mut S) -> Result<i32, SourceFault>
     requires { ⌜ now (now stretch .unit) .settings .n ≡ 9 ⌝ ∗ ⌜ (now (now stretch .unit) .settings .mode ≡ Stochastic → coming (now source) .left 999 ≡ true) ⌝ }
-    ensures { λ r. ⌜ elim r [ Ok v ↦ (v ≡ harmonic (now (now (stretch .entry) .unit) .settings .mode) (now (now (stretch .entry) .unit) .settings .k .bits) (coming (now (source .entry)) .word)) × Leaves-all coming (now (now (stretch .entry) .unit) .settings .mode) 999 (now (source .entry)) (now (source .exit)) | Err e ↦ ⊥ ] ⌝ }
+    ensures { λ r. ⌜ Sums-surely coming (now (now (stretch .entry) .unit) .settings .mode) (now (now (stretch .entry) .unit) .settings .k .bits) (now (source .entry)) (now (source .exit)) r ⌝ }
 {
     let mut sum = 128;
     for i in 2..1001u32 {
         sum += stretch.round(i64::from(65536 / i), source)?;
     }
     Ok(sum)
+}
+
+// The code of 1 + 1/2 + .. + 1/1000 in s8.7, each term rounded by the unit in a stretch of this mode.
+pub fn harmonic_sum<S: Source>(unit: &mut RoundingUnit, mode: Mode, source: &mut S) -> Result<i32, SourceFault>
+    ensures answer { λ r. ⌜ Sums coming mode (now (unit .entry) .settings .k .bits) (now (source .entry)) (now (source .exit)) r ⌝ }
+    ensures restored { λ _. ⌜ now (unit .exit) .settings ≡ now (unit .entry) .settings ⌝ }
+    ensures values { λ _. ⌜ Values ⌝ }
+{
+    if matches!(mode, Mode::Stochastic) && !source.has(999) {
+        return Err(SourceFault::Exhausted);
+    }
+    let k = unit.settings().draw_bits();
+    let Ok(settings) = Settings::new(mode.number(), 9, u64::from(k.get())) else {
+        unreachable()
+    };
+    let stretch = unit.stretch(settings);
+    rounded_terms(&stretch, source)
 }

@@ -2,3 +2,4 @@ pub mod Bits
 pub mod Halves
 pub mod Machine
 pub mod Means
+pub mod ModeNumbers
