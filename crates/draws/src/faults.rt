@@ -1,8 +1,12 @@
 // What is refused here, and by which number.
 ghost use mathlib.Core.Path.{_≡_};
-ghost use Prim.Native.Nat.{ℕ};
+ghost use lib.Chars.{codes};
+ghost use Rattle.std.specs.declared.option.Option.the-variants.{Some};
 ghost use Rattle.draws.specs.Refusals.{draw-bits-refusal, source-refusal};
+use std::error::Error;
+use std::fmt;
 
+// A number of draw bits that is not 1 to 32.
 #[derive(Clone, Copy, PartialEq, Eq, Debug)]
 pub enum DrawBitsFault {
     OutOfRange,
@@ -18,6 +22,17 @@ impl DrawBitsFault {
     }
 }
 
+pub impl fmt::Display for DrawBitsFault as DrawBitsFaultDisplay {
+    ghost shown = { λ _. Some (codes "refused by 2: the draw bits are not 1 to 32") };
+
+    fn fmt<W: fmt::Write>(&self, f: &mut fmt::Formatter<W>) -> fmt::Result {
+        f.write_str("refused by 2: the draw bits are not 1 to 32")
+    }
+}
+
+pub impl Error for DrawBitsFault as DrawBitsFaultError {}
+
+// A source with fewer words left than were asked for.
 #[derive(Clone, Copy, PartialEq, Eq, Debug)]
 pub enum SourceFault {
     Exhausted,
@@ -32,3 +47,13 @@ impl SourceFault {
         }
     }
 }
+
+pub impl fmt::Display for SourceFault as SourceFaultDisplay {
+    ghost shown = { λ _. Some (codes "refused by 8: too few words are left") };
+
+    fn fmt<W: fmt::Write>(&self, f: &mut fmt::Formatter<W>) -> fmt::Result {
+        f.write_str("refused by 8: too few words are left")
+    }
+}
+
+pub impl Error for SourceFault as SourceFaultError {}

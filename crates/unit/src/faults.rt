@@ -1,8 +1,11 @@
 // What is refused here, and by which number.
 ghost use mathlib.Core.Path.{_≡_};
-ghost use Rattle.unit.specs.Refusals.{settings-refusal};
+ghost use Rattle.std.specs.declared.option.Option.the-variants.{Some};
+ghost use Rattle.unit.specs.Refusals.{settings-refusal, settings-text};
 ghost use Rattle.unit.specs.declared.faults.SettingsFault.the-variants.{DrawBitsOutOfRange};
 use draws::DrawBitsFault;
+use std::error::Error;
+use std::fmt;
 
 // Which of the three settings is out of range.
 #[derive(Clone, Copy, PartialEq, Eq, Debug)]
@@ -22,6 +25,16 @@ impl SettingsFault {
             SettingsFault::ModeOutOfRange => 2,
         }
     }
+
+    fn text(self) -> &'static str
+        ensures { λ r. ⌜ now r ≡ settings-text self ⌝ }
+    {
+        match self {
+            SettingsFault::DrawBitsOutOfRange => "refused by 2: the draw bits are not 1 to 32",
+            SettingsFault::ShiftOutOfRange => "refused by 2: the shift is not 1 to 32",
+            SettingsFault::ModeOutOfRange => "refused by 2: no mode has this number",
+        }
+    }
 }
 
 pub impl From<DrawBitsFault> for SettingsFault as FromDrawBits {
@@ -31,3 +44,13 @@ pub impl From<DrawBitsFault> for SettingsFault as FromDrawBits {
         SettingsFault::DrawBitsOutOfRange
     }
 }
+
+pub impl fmt::Display for SettingsFault as SettingsFaultDisplay {
+    ghost shown = { λ fault. Some (settings-text fault) };
+
+    fn fmt<W: fmt::Write>(&self, f: &mut fmt::Formatter<W>) -> fmt::Result {
+        f.write_str(self.text())
+    }
+}
+
+pub impl Error for SettingsFault as SettingsFaultError {}

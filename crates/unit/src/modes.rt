@@ -2,7 +2,8 @@
 ghost use mathlib.Core.Path.{_≡_};
 ghost use Prim.Native.Nat.{ℕ, _<_};
 ghost use Rattle.std.specs.declared.option.Option.the-variants.{Some, None};
-ghost use Rattle.unit.specs.Modes.{mode-number};
+ghost use Rattle.unit.specs.Modes.{mode-number, mode-name};
+use std::fmt;
 
 #[derive(Clone, Copy, PartialEq, Eq, Debug)]
 pub enum Mode {
@@ -32,5 +33,17 @@ impl Mode {
             Mode::Nearest => 1,
             Mode::Stochastic => 2,
         }
+    }
+}
+
+pub impl fmt::Display for Mode as ModeDisplay {
+    ghost shown = { λ mode. Some (mode-name mode) };
+
+    fn fmt<W: fmt::Write>(&self, f: &mut fmt::Formatter<W>) -> fmt::Result {
+        f.write_str(match self {
+            Mode::Down => "down",
+            Mode::Nearest => "nearest",
+            Mode::Stochastic => "stochastic",
+        })
     }
 }
