@@ -11,6 +11,9 @@ mod sources;
 mod word_list;
 
 pub use draw_bits::DrawBits;
+pub use draw_bits::DrawBitsDebug;
+pub use draw_bits::DrawBitsEq;
+pub use draw_bits::DrawBitsPartialEq;
 pub use faults::DrawBitsFault;
 pub use faults::DrawBitsFaultDebug;
 pub use faults::DrawBitsFaultDisplay;
@@ -35,3 +38,6 @@ pub use sources::Source;
 pub use sources::Word;
 pub use word_list::WordList;
 pub use word_list::WordListSource;
+
+#[cfg(test)]
+mod tests;

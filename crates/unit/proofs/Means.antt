@@ -14,9 +14,10 @@ use Rattle.whole.proofs.Divisions.{divides, floor-holds}
 use Rattle.whole.proofs.Sums.{sumℤ-same, sumℤ-passed, length-below}
 use Rattle.draws.specs.Rules.{compares}
 use Rattle.draws.proofs.Fairness.{compares-fair}
-use Rattle.unit.specs.declared.modes.Mode.the-variants.{Stochastic}
-use Rattle.unit.specs.Rounding.{clamped, far-count, rounded}
-use Rattle.unit.specs.Laws.{Signed32, Clamps, Mean, Unit-laws}
+use Rattle.unit.specs.declared.modes.Mode.the-variants.{Nearest, Stochastic}
+use Rattle.unit.specs.Rounding.{clamped, far-count, quotient, rounded}
+use Rattle.unit.specs.Laws.{Signed32, Clamps, Closest, Mean, Unit-laws}
+use Rattle.unit.proofs.Halves.{halved}
 
 clamped-inside : (z : ℤ) → Signed32 z → clamped z ≡ z
 clamped-inside (pos a) h = omega (arith, ints, h .most)
@@ -55,5 +56,17 @@ mean n k x least most low high =
     ∙ sumℤ-passed (compares k R) q (below (2 ^ k))
     ∙ ap₂ (λ (m c : ℕ). pos m *ℤ q +ℤ pos c) (length-below (2 ^ k)) (compares-fair k R least most (far-count-below n k x))
 
-pub unit-laws : (n k : ℕ) (x : ℤ) → 1 ≤ k → k ≤ 32 → Unit-laws n k x
-unit-laws n k x least most = record { division = divides x (2 ^ n) (pow-pos n); clamping = clamps; mean = mean n k x least most }
+-- from the division of x and a half by 2 ^ n
+pub closest : (n k : ℕ) (x : ℤ) → 1 ≤ n → Closest x (2 ^ n) (2 ^ (n - 1)) (quotient Nearest n k x 0)
+closest n k x some =
+    let e = floor-holds (x +ℤ pos (2 ^ (n - 1))) (2 ^ n) (pow-pos n) in
+    let d : 2 ^ n ≡ 2 * 2 ^ (n - 1) = halved n some in
+    record { whole = d; low = omega (arith, ints, e .whole); high = omega (arith, ints, e .whole, e .rest) }
+
+pub unit-laws : (n k : ℕ) (x : ℤ) → 1 ≤ n → 1 ≤ k → k ≤ 32 → Unit-laws n k x
+unit-laws n k x some least most = record {
+  division = divides x (2 ^ n) (pow-pos n);
+  closest = closest n k x some;
+  clamping = clamps;
+  mean = mean n k x least most;
+}

@@ -23,4 +23,6 @@ pub use modes::ModeDisplay;
 pub use modes::ModePartialEq;
 pub use rounding::RoundingUnit;
 pub use settings::Settings;
+pub use settings::SettingsDebug;
+pub use settings::SettingsPartialEq;
 pub use stretch::Stretch;

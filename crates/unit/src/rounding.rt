@@ -58,6 +58,7 @@ impl RoundingUnit {
     // x / 2^n as a signed 32-bit number.
     pub fn round<S: Source>(&self, x: i64, source: &mut S) -> Result<i32, SourceFault>
         ensures answer { λ r. ⌜ Rounds coming (now (self .entry) .settings) x (now (source .entry)) (now (source .exit)) r ⌝ }
+        ensures settings { λ _. ⌜ now (self .exit) .settings ≡ now (self .entry) .settings ⌝ }
         ensures laws { λ _. ⌜ Unit-laws (now (self .entry) .settings .n) (now (self .entry) .settings .k .bits) x ⌝ }
     {
         let n = self.settings.shift();

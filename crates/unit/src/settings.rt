@@ -6,12 +6,18 @@ ghost use Rattle.std.specs.declared.result.Result.the-variants.{Ok, Err};
 ghost use Rattle.unit.specs.Modes.{mode-number};
 ghost use Rattle.unit.specs.Refusals.{settings-fault, settings-refusal};
 use draws::DrawBits;
+use draws::DrawBitsDebug;
+use draws::DrawBitsEq;
+use draws::DrawBitsPartialEq;
 use crate::faults::FromDrawBits;
 use crate::faults::SettingsFault;
 use crate::modes::Mode;
+use crate::modes::ModeDebug;
+use crate::modes::ModeEq;
+use crate::modes::ModePartialEq;
 
 // How the unit rounds: its mode, the n of its divisor 2^n, and its number k of draw bits.
-#[derive(Clone, Copy)]
+#[derive(Clone, Copy, PartialEq, Eq, Debug)]
 pub struct Settings {
     mode: Mode,
     n: u32,

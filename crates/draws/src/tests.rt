@@ -1,0 +1,79 @@
+// Examples: the first words, the draw of a word, and both rules at their edges.
+use crate::draw_bits::DrawBits;
+use crate::draw_bits::DrawBitsDebug;
+use crate::draw_bits::DrawBitsPartialEq;
+use crate::faults::DrawBitsFault;
+use crate::faults::DrawBitsFaultDebug;
+use crate::faults::DrawBitsFaultPartialEq;
+use crate::faults::SourceFault;
+use crate::faults::SourceFaultDebug;
+use crate::faults::SourceFaultPartialEq;
+use crate::generator::Generator;
+use crate::generator::GeneratorSource;
+use crate::rules::Carry;
+use crate::rules::CarryRule;
+use crate::rules::Comparison;
+use crate::rules::ComparisonRule;
+use crate::rules::Neighbour;
+use crate::rules::NeighbourDebug;
+use crate::rules::NeighbourPartialEq;
+use crate::rules::Rule;
+use crate::sources::Source;
+use crate::word_list::WordList;
+use crate::word_list::WordListSource;
+use std::test::*;
+
+#[test]
+fn the_generator_begins() -> Result<(), Fail> {
+    let mut source = Generator::new(0);
+    check_eq(source.advance(), Ok(1013904223))?;
+    check_eq(source.advance(), Ok(1196435762))?;
+    check(source.has(u64::MAX))
+}
+
+#[test]
+fn a_list_ends(rt: LibcRuntime) -> Result<(), Fail> {
+    let mut source = WordList::new(vec![in rt.alloc(); 7u32, 9]?);
+    check(source.has(0) && source.has(2) && !source.has(3))?;
+    check_eq(source.advance(), Ok(7))?;
+    check_eq(source.advance(), Ok(9))?;
+    check(source.has(0) && !source.has(1) && !source.has(u64::MAX))?;
+    check_eq(source.advance(), Err(SourceFault::Exhausted))?;
+    check_eq(SourceFault::Exhausted.number(), 8)
+}
+
+#[test]
+fn draw_bits_are_1_to_32() -> Result<(), Fail> {
+    check_eq(DrawBits::new(0), Err(DrawBitsFault::OutOfRange))?;
+    check_eq(DrawBits::new(33), Err(DrawBitsFault::OutOfRange))?;
+    check_eq(DrawBits::new(u64::MAX), Err(DrawBitsFault::OutOfRange))?;
+    check_eq(DrawBitsFault::OutOfRange.number(), 2)?;
+    check_eq(DrawBits::new(1)?.draws(), 2)?;
+    check_eq(DrawBits::new(32)?.draws(), 4294967296)
+}
+
+// What a rule says of a word.
+fn said<R: Rule>(rt: &LibcRuntime, rule: &R, k: u64, count: u64, word: u32) -> Result<Neighbour, Fail> {
+    let k = DrawBits::new(k)?;
+    let mut source = WordList::new(vec![in rt.alloc(); word]?);
+    let word = source.take()?;
+    Ok(word.decide(rule, k, count))
+}
+
+#[test]
+fn a_word_decides_by_its_high_bits(rt: LibcRuntime) -> Result<(), Fail> {
+    check_eq(said(&rt, &Comparison, 8, 129, 0x80ff_ffff)?, Neighbour::Far)?;
+    check_eq(said(&rt, &Comparison, 8, 128, 0x8000_0000)?, Neighbour::Near)?;
+    check_eq(said(&rt, &Carry, 8, 128, 0x8000_0000)?, Neighbour::Far)?;
+    check_eq(said(&rt, &Carry, 8, 127, 0x80ff_ffff)?, Neighbour::Near)?;
+    check_eq(said(&rt, &Comparison, 1, 1, 0x7fff_ffff)?, Neighbour::Far)?;
+    check_eq(said(&rt, &Carry, 32, 1, 0xffff_ffff)?, Neighbour::Far)
+}
+
+#[test]
+fn outside_the_ranges_is_near() -> Result<(), Fail> {
+    check_eq(Comparison.choose(8, 256, 0), Neighbour::Near)?;
+    check_eq(Carry.choose(8, 255, 256), Neighbour::Near)?;
+    check_eq(Comparison.choose(0, 1, 0), Neighbour::Near)?;
+    check_eq(Carry.choose(33, 1, u64::MAX), Neighbour::Near)
+}
