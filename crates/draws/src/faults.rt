@@ -23,10 +23,10 @@ impl DrawBitsFault {
 }
 
 pub impl fmt::Display for DrawBitsFault as DrawBitsFaultDisplay {
-    ghost shown = { λ _. Some (codes "refused by 2: the draw bits are not 1 to 32") };
+    ghost shown = { λ _. Some (codes "refused by 2") };
 
     fn fmt<W: fmt::Write>(&self, f: &mut fmt::Formatter<W>) -> fmt::Result {
-        f.write_str("refused by 2: the draw bits are not 1 to 32")
+        f.write_str("refused by 2")
     }
 }
 
@@ -49,10 +49,10 @@ impl SourceFault {
 }
 
 pub impl fmt::Display for SourceFault as SourceFaultDisplay {
-    ghost shown = { λ _. Some (codes "refused by 8: too few words are left") };
+    ghost shown = { λ _. Some (codes "refused by 8") };
 
     fn fmt<W: fmt::Write>(&self, f: &mut fmt::Formatter<W>) -> fmt::Result {
-        f.write_str("refused by 8: too few words are left")
+        f.write_str("refused by 8")
     }
 }
 

@@ -1,8 +1,8 @@
 // Words, the sources they are taken from, and the step that spends one.
 ghost use mathlib.Core.Path.{_≡_};
-ghost use Prim.Native.Nat.{ℕ, _^_, _<_};
+ghost use Prim.Native.Nat.{ℕ};
 ghost use Rattle.draws.specs.DrawBits.{draw};
-ghost use Rattle.draws.specs.Rules.{is-far, far-draws};
+ghost use Rattle.draws.specs.Rules.{is-far};
 ghost use Rattle.draws.specs.Streams.{Stream, Listed};
 ghost use Rattle.draws.specs.Taking.{Takes};
 use crate::draw_bits::DrawBits;
@@ -41,9 +41,7 @@ pub trait Source {
 impl Word {
     // Spends the word: what the rule says of the count and the draw of this word.
     pub fn decide<R: Rule>(self, rule: &R, k: DrawBits, count: u64) -> Neighbour
-        ensures answer { λ r. ⌜ is-far r ≡ says (now (rule .entry)) (k .bits) count (draw (k .bits) (self .bits)) ⌝ }
-        ensures drawn { λ _. ⌜ draw (k .bits) (self .bits) < 2 ^ k .bits ⌝ }
-        ensures fair { λ _. ⌜ (count < 2 ^ k .bits → far-draws (says (now (rule .entry))) (k .bits) count ≡ count) ⌝ }
+        ensures { λ r. ⌜ is-far r ≡ says (now (rule .entry)) (k .bits) count (draw (k .bits) (self .bits)) ⌝ }
     {
         let Word { bits } = self;
         let k = k.get();

@@ -2,7 +2,7 @@
 use mathlib.Core.Bool.{Bool, true, false, cond}
 use mathlib.Core.Path.{_≡_, refl, sym, ap, ap₂, subst, _∙_}
 use Prim.Native.Nat.{ℕ, zero, suc, _+_, _-_, _*_, _/_, _^_, _<_, _≤_}
-use native.Mathlib.Nat.{div-le-self, add-suc, add-zero}
+use native.Mathlib.Nat.{div-le-self}
 use native.Mathlib.Omega.{arith}
 use lib.IntN.{ℤ, pos, _+ℤ_}
 use lib.Signed.{_≤ℤ_}
@@ -11,6 +11,7 @@ use mir.Val.{SFits, toZ, ofZ}
 use Rattle.std.proofs.shelf.Signed.{ints}
 use Rattle.std.specs.declared.result.Result.{Result}
 use Rattle.std.specs.declared.result.Result.the-variants.{Ok, Err}
+use Rattle.whole.specs.Division.{floor}
 use Rattle.whole.specs.Sums.{sumℤ, span}
 use Rattle.draws.specs.declared.faults.SourceFault.{SourceFault}
 use Rattle.draws.specs.DrawBits.{draw}
@@ -18,7 +19,7 @@ use Rattle.draws.specs.Rules.{compares}
 use Rattle.draws.specs.Streams.{Stream, Listed, rest}
 use Rattle.unit.specs.declared.modes.Mode.{Mode}
 use Rattle.unit.specs.declared.modes.Mode.the-variants.{Down, Nearest, Stochastic}
-use Rattle.unit.specs.Rounding.{rounded, far-count, Leaves}
+use Rattle.unit.specs.Rounding.{clamped, rounded, far-count, Leaves}
 use Rattle.series.specs.Harmonic.{term, series, skipped, Leaves-all, Sums, Sums-surely}
 
 pub series-none : (mode : Mode) (k : ℕ) (word : ℕ → ℕ) → series mode k word 0 ≡ pos 128
@@ -44,16 +45,14 @@ fewer-left s l zero n h = ap (s .left) (omega arith) ∙ h
 fewer-left s l (suc m) n h = fewer-left s l m n (l .fewer (m + n) (ap (s .left) (omega arith) ∙ h))
 
 -- a rounded term is small
-choice-small : (b : Bool) → cond b 1 0 ≤ 1
-choice-small true = omega arith
-choice-small false = omega arith
+chosen-small : (a : ℕ) (up : Bool) → a ≤ 65536 → (pos 0 ≤ℤ clamped (cond up (floor (pos a) (2 ^ 9) +ℤ pos 1) (floor (pos a) (2 ^ 9)))) × (clamped (cond up (floor (pos a) (2 ^ 9) +ℤ pos 1) (floor (pos a) (2 ^ 9))) ≤ℤ pos 129)
+chosen-small a true h = (omega (arith, ints), omega (arith, ints))
+chosen-small a false h = (omega (arith, ints), omega (arith, ints))
 
-pub term-small : (mode : Mode) (k a d : ℕ) → a ≤ 65536 → (pos 0 ≤ℤ rounded mode 9 k (pos a) d) × (rounded mode 9 k (pos a) d ≤ℤ pos 129)
+term-small : (mode : Mode) (k a d : ℕ) → a ≤ 65536 → (pos 0 ≤ℤ rounded mode 9 k (pos a) d) × (rounded mode 9 k (pos a) d ≤ℤ pos 129)
 term-small Down k a d h = (omega (arith, ints), omega (arith, ints))
 term-small Nearest k a d h = (omega (arith, ints), omega (arith, ints))
-term-small Stochastic k a d h =
-    let one = choice-small (compares k (far-count 9 k (pos a)) d) in
-    (omega (arith, ints, one), omega (arith, ints, one))
+term-small Stochastic k a d h = chosen-small a (compares k (far-count 9 k (pos a)) d) h
 
 -- The sum after the first m terms: what it is, that it fits, and what is left of the source.
 pub record Summed {S : Type 0} (coming : S → Stream) (mode : Mode) (k m : ℕ) (before now : S) (sum : ℤ) : Type 0 where

@@ -37,6 +37,11 @@ Leaves-all coming Down m before after = after ≡ before
 Leaves-all coming Nearest m before after = after ≡ before
 Leaves-all coming Stochastic m before after = coming after ≡ skipped m (coming before)
 
+-- whether there are words for the 999 terms
+abbrev pub Enough : {S : Type 0} → (S → Stream) → Mode → S → Result (Unit {0}) SourceFault → Type 0
+Enough coming mode source (Ok _) = mode ≡ Stochastic → coming source .left 999 ≡ true
+Enough coming mode source (Err e) = (mode ≡ Stochastic) × (coming source .left 999 ≡ false) × (source-refusal e ≡ 8)
+
 -- the sum of the series, with no refusal
 abbrev pub Sums-surely : {S : Type 0} → (S → Stream) → Mode → ℕ → S → S → Result ℤ SourceFault → Type 0
 Sums-surely coming mode k before after (Ok v) = (v ≡ harmonic mode k (coming before .word)) × Leaves-all coming mode 999 before after

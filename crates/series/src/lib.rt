@@ -3,13 +3,23 @@ ghost use mathlib.Core.Bool.{true};
 ghost use mathlib.Core.Path.{_≡_};
 ghost use Prim.Native.Nat.{ℕ};
 ghost use Rattle.unit.specs.declared.modes.Mode.the-variants.{Stochastic};
-ghost use Rattle.series.specs.Harmonic.{Sums, Sums-surely, Values};
+ghost use Rattle.series.specs.Harmonic.{Enough, Sums, Sums-surely, Values};
 use draws::Source;
 use draws::SourceFault;
 use unit::Mode;
 use unit::RoundingUnit;
 use unit::Settings;
 use unit::Stretch;
+
+// Refuses where the mode takes words and fewer than 999 are left.
+fn check_words<S: Source>(mode: Mode, source: &S) -> Result<(), SourceFault>
+    ensures { λ r. ⌜ Enough coming mode (now (source .entry)) r ⌝ }
+{
+    match mode {
+        Mode::Stochastic if !source.has(999) => Err(SourceFault::Exhausted),
+        _ => Ok(()),
+    }
+}
 
 // 1 and the rounded terms 1/2 to 1/1000.
 fn rounded_terms<S: Source>(stretch: &Stretch<'_>, source: &mut S) -> Result<i32, SourceFault>
@@ -29,9 +39,7 @@ pub fn harmonic_sum<S: Source>(unit: &mut RoundingUnit, mode: Mode, source: &mut
     ensures restored { λ _. ⌜ now (unit .exit) .settings ≡ now (unit .entry) .settings ⌝ }
     ensures values { λ _. ⌜ Values ⌝ }
 {
-    if matches!(mode, Mode::Stochastic) && !source.has(999) {
-        return Err(SourceFault::Exhausted);
-    }
+    check_words(mode, source)?;
     let k = unit.settings().draw_bits();
     let Ok(settings) = Settings::new(mode.number(), 9, u64::from(k.get())) else {
         unreachable()

@@ -1,10 +1,10 @@
 -- The laws of the unit hold. Assumes nothing.
 use mathlib.Core.Bool.{Bool, true, false, cond}
-use mathlib.Core.Path.{_≡_, refl, sym, ap, ap₂, subst, _∙_}
+use mathlib.Core.Path.{_≡_, ap₂, _∙_}
 use Prim.Native.Nat.{ℕ, zero, suc, _+_, _-_, _*_, _/_, _^_, _<_, _≤_, min}
 use native.Mathlib.Nat.{mul-lt-mul-of-pos-left}
 use native.Mathlib.Omega.{arith}
-use lib.IntN.{ℤ, pos, negsuc, _+ℤ_, _*ℤ_, +ℤ-idr}
+use lib.IntN.{ℤ, pos, negsuc, _+ℤ_, _*ℤ_}
 use lib.Signed.{_≤ℤ_, _<ℤ_}
 use Rattle.std.proofs.shelf.Signed.{ints}
 use Rattle.std.proofs.shelf.Bits.{pow-pos, div-below}
@@ -13,6 +13,7 @@ use Rattle.whole.specs.Sums.{sumℤ, count, below}
 use Rattle.whole.proofs.Divisions.{divides, floor-holds}
 use Rattle.whole.proofs.Sums.{sumℤ-same, sumℤ-passed, length-below}
 use Rattle.draws.specs.Rules.{compares}
+use Rattle.draws.proofs.Draws.{draw-below}
 use Rattle.draws.proofs.Fairness.{compares-fair}
 use Rattle.unit.specs.declared.modes.Mode.the-variants.{Nearest, Stochastic}
 use Rattle.unit.specs.Rounding.{clamped, far-count, quotient, rounded}
@@ -44,15 +45,15 @@ far-count-below n k x =
     div-below (2 ^ k * modulo x (2 ^ n)) (2 ^ n) (2 ^ k) (pow-pos n) (mul-lt-mul-of-pos-left low (pow-pos k))
 
 -- near or far, neither is clamped where both are signed 32-bit numbers
-chosen-inside : (q : ℤ) → Signed32 q → Signed32 (q +ℤ pos 1) → (b : Bool) → clamped (q +ℤ pos (cond b 1 0)) ≡ q +ℤ pos (cond b 1 0)
+chosen-inside : (q : ℤ) → Signed32 q → Signed32 (q +ℤ pos 1) → (b : Bool) → clamped (cond b (q +ℤ pos 1) q) ≡ cond b (q +ℤ pos 1) q
 chosen-inside q low high true = clamped-inside (q +ℤ pos 1) high
-chosen-inside q low high false = clamped-inside (q +ℤ pos 0) (subst Signed32 (sym (+ℤ-idr q)) low)
+chosen-inside q low high false = clamped-inside q low
 
 pub mean : (n k : ℕ) (x : ℤ) → 1 ≤ k → k ≤ 32 → Mean n k x
 mean n k x least most low high =
     let q : ℤ = floor x (2 ^ n) in
     let R : ℕ = far-count n k x in
-    sumℤ-same (rounded Stochastic n k x) (λ d. q +ℤ pos (cond (compares k R d) 1 0)) (λ d. chosen-inside q low high (compares k R d)) (below (2 ^ k))
+    sumℤ-same (rounded Stochastic n k x) (λ d. cond (compares k R d) (q +ℤ pos 1) q) (λ d. chosen-inside q low high (compares k R d)) (below (2 ^ k))
     ∙ sumℤ-passed (compares k R) q (below (2 ^ k))
     ∙ ap₂ (λ (m c : ℕ). pos m *ℤ q +ℤ pos c) (length-below (2 ^ k)) (compares-fair k R least most (far-count-below n k x))
 
@@ -68,5 +69,6 @@ unit-laws n k x some least most = record {
   division = divides x (2 ^ n) (pow-pos n);
   closest = closest n k x some;
   clamping = clamps;
+  drawn = λ word fits. draw-below k word most fits;
   mean = mean n k x least most;
 }

@@ -1,10 +1,11 @@
 -- The laws of the unit. Assumes nothing.
 use mathlib.Core.Path.{_≡_}
-use Prim.Native.Nat.{ℕ, _-_, _*_, _^_}
+use Prim.Native.Nat.{ℕ, _-_, _*_, _^_, _<_}
 use lib.IntN.{ℤ, pos, negsuc, _+ℤ_, _*ℤ_}
 use lib.Signed.{_≤ℤ_, _<ℤ_}
 use Rattle.whole.specs.Division.{floor, Divides}
 use Rattle.whole.specs.Sums.{sumℤ, below}
+use Rattle.draws.specs.DrawBits.{draw}
 use Rattle.unit.specs.declared.modes.Mode.the-variants.{Nearest, Stochastic}
 use Rattle.unit.specs.Rounding.{clamped, far-count, quotient, rounded}
 
@@ -38,4 +39,6 @@ pub record Unit-laws (n k : ℕ) (x : ℤ) : Type 0 where
   pub division : Divides x (2 ^ n)
   pub closest : Closest x (2 ^ n) (2 ^ (n - 1)) (quotient Nearest n k x 0)
   pub clamping : (z : ℤ) → Clamps z
+  -- every word draws one of the 2 ^ k draws
+  pub drawn : (word : ℕ) → word < 2 ^ 32 → draw k word < 2 ^ k
   pub mean : Mean n k x

@@ -1,8 +1,6 @@
 -- Settings that are refused, and the number they are refused by. Assumes nothing.
 use mathlib.Core.Bool.{Bool, cond, _&&_}
-use mathlib.Core.List.{List}
 use Prim.Native.Nat.{ℕ}
-use lib.Chars.{codes}
 use lib.Dec.{leb}
 use Rattle.std.specs.declared.option.Option.{Option}
 use Rattle.std.specs.declared.option.Option.the-variants.{Some, None}
@@ -14,12 +12,6 @@ abbrev pub settings-refusal : SettingsFault → ℕ
 settings-refusal DrawBitsOutOfRange = 2
 settings-refusal ShiftOutOfRange = 2
 settings-refusal ModeOutOfRange = 2
-
--- what is printed of each
-abbrev pub settings-text : SettingsFault → List ℕ
-settings-text DrawBitsOutOfRange = codes "refused by 2: the draw bits are not 1 to 32"
-settings-text ShiftOutOfRange = codes "refused by 2: the shift is not 1 to 32"
-settings-text ModeOutOfRange = codes "refused by 2: no mode has this number"
 
 -- the unit divides by 2 ^ n, n from 1 to 32
 abbrev pub shift-in-range : ℕ → Bool

@@ -28,7 +28,7 @@ far-count n k x = 2 ^ k * modulo x (2 ^ n) / 2 ^ n
 abbrev pub quotient : Mode → ℕ → ℕ → ℤ → ℕ → ℤ
 quotient Down n k x d = floor x (2 ^ n)
 quotient Nearest n k x d = floor (x +ℤ pos (2 ^ (n - 1))) (2 ^ n)
-quotient Stochastic n k x d = floor x (2 ^ n) +ℤ pos (cond (compares k (far-count n k x) d) 1 0)
+quotient Stochastic n k x d = cond (compares k (far-count n k x) d) (floor x (2 ^ n) +ℤ pos 1) (floor x (2 ^ n))
 
 abbrev pub rounded : Mode → ℕ → ℕ → ℤ → ℕ → ℤ
 rounded mode n k x d = clamped (quotient mode n k x d)

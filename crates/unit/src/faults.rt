@@ -1,7 +1,8 @@
 // What is refused here, and by which number.
 ghost use mathlib.Core.Path.{_≡_};
+ghost use lib.Chars.{codes};
 ghost use Rattle.std.specs.declared.option.Option.the-variants.{Some};
-ghost use Rattle.unit.specs.Refusals.{settings-refusal, settings-text};
+ghost use Rattle.unit.specs.Refusals.{settings-refusal};
 ghost use Rattle.unit.specs.declared.faults.SettingsFault.the-variants.{DrawBitsOutOfRange};
 use draws::DrawBitsFault;
 use std::error::Error;
@@ -25,31 +26,23 @@ impl SettingsFault {
             SettingsFault::ModeOutOfRange => 2,
         }
     }
-
-    fn text(self) -> &'static str
-        ensures { λ r. ⌜ now r ≡ settings-text self ⌝ }
-    {
-        match self {
-            SettingsFault::DrawBitsOutOfRange => "refused by 2: the draw bits are not 1 to 32",
-            SettingsFault::ShiftOutOfRange => "refused by 2: the shift is not 1 to 32",
-            SettingsFault::ModeOutOfRange => "refused by 2: no mode has this number",
-        }
-    }
 }
 
 pub impl From<DrawBitsFault> for SettingsFault as FromDrawBits {
     ghost converts = { λ x r. r ≡ DrawBitsOutOfRange };
 
-    fn from(_fault: DrawBitsFault) -> SettingsFault {
-        SettingsFault::DrawBitsOutOfRange
+    fn from(fault: DrawBitsFault) -> SettingsFault {
+        match fault {
+            DrawBitsFault::OutOfRange => SettingsFault::DrawBitsOutOfRange,
+        }
     }
 }
 
 pub impl fmt::Display for SettingsFault as SettingsFaultDisplay {
-    ghost shown = { λ fault. Some (settings-text fault) };
+    ghost shown = { λ _. Some (codes "refused by 2") };
 
     fn fmt<W: fmt::Write>(&self, f: &mut fmt::Formatter<W>) -> fmt::Result {
-        f.write_str(self.text())
+        f.write_str("refused by 2")
     }
 }
 

@@ -26,3 +26,6 @@ pub use settings::Settings;
 pub use settings::SettingsDebug;
 pub use settings::SettingsPartialEq;
 pub use stretch::Stretch;
+
+#[cfg(test)]
+mod tests;

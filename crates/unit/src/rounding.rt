@@ -1,8 +1,6 @@
 // The unit and one rounding under its settings.
 ghost use mathlib.Core.Path.{_≡_};
 ghost use Prim.Native.Nat.{ℕ, _≤_};
-ghost use Rattle.draws.specs.DrawBits.{draw};
-ghost use Rattle.unit.specs.declared.modes.Mode.the-variants.{Stochastic};
 ghost use Rattle.unit.specs.Laws.{Unit-laws};
 ghost use Rattle.unit.specs.Rounding.{Draws-quotient, Rounds};
 use draws::Comparison;
@@ -31,6 +29,20 @@ fn drawn_quotient<S: Source>(x: i64, n: u32, k: DrawBits, source: &mut S) -> Res
     }
 }
 
+// x / 2^n under these settings.
+fn rounded<S: Source>(settings: Settings, x: i64, source: &mut S) -> Result<i32, SourceFault>
+    ensures { λ r. ⌜ Rounds coming settings x (now (source .entry)) (now (source .exit)) r ⌝ }
+{
+    let n = settings.shift();
+    let k = settings.draw_bits();
+    let quotient = match settings.mode() {
+        Mode::Down => divided(x, n).0,
+        Mode::Nearest => nearest(x, n),
+        Mode::Stochastic => drawn_quotient(x, n, k, source)?,
+    };
+    Ok(clamp(quotient))
+}
+
 #[derive(Drop)]
 pub struct RoundingUnit {
     settings: Settings,
@@ -52,7 +64,7 @@ impl RoundingUnit {
     pub fn set_settings(&mut self, settings: Settings)
         ensures { λ _. ⌜ now (self .exit) .settings ≡ settings ⌝ }
     {
-        self.settings = settings;
+        *self = RoundingUnit { settings };
     }
 
     // x / 2^n as a signed 32-bit number.
@@ -61,13 +73,6 @@ impl RoundingUnit {
         ensures settings { λ _. ⌜ now (self .exit) .settings ≡ now (self .entry) .settings ⌝ }
         ensures laws { λ _. ⌜ Unit-laws (now (self .entry) .settings .n) (now (self .entry) .settings .k .bits) x ⌝ }
     {
-        let n = self.settings.shift();
-        let k = self.settings.draw_bits();
-        let quotient = match self.settings.mode() {
-            Mode::Down => divided(x, n).0,
-            Mode::Nearest => nearest(x, n),
-            Mode::Stochastic => drawn_quotient(x, n, k, source)?,
-        };
-        Ok(clamp(quotient))
+        rounded(self.settings, x, source)
     }
 }

@@ -14,13 +14,17 @@ pub sumℤ-same : {X : Type 0} (f g : X → ℤ) → ((x : X) → f x ≡ g x) �
 sumℤ-same f g e [] = refl
 sumℤ-same f g e (x ∷ xs) = ap₂ (λ (a b : ℤ). a +ℤ b) (e x) (sumℤ-same f g e xs)
 
--- q for each element, and one more for each that passes
-pub sumℤ-passed : {X : Type 0} (p : X → Bool) (q : ℤ) (xs : List X) → sumℤ (λ x. q +ℤ pos (cond (p x) 1 0)) xs ≡ pos (length xs) *ℤ q +ℤ pos (count p xs)
+-- one more than q for each element that passes, and q for each other
+pub sumℤ-passed : {X : Type 0} (p : X → Bool) (q : ℤ) (xs : List X) → sumℤ (λ x. cond (p x) (q +ℤ pos 1) q) xs ≡ pos (length xs) *ℤ q +ℤ pos (count p xs)
 sumℤ-passed p q [] = sym (ap (λ (z : ℤ). z +ℤ pos 0) (zero-*ℤ q))
-sumℤ-passed p q (x ∷ xs) =
-    let before : sumℤ (λ y. q +ℤ pos (cond (p y) 1 0)) xs ≡ pos (length xs) *ℤ q +ℤ pos (count p xs) = sumℤ-passed p q xs in
-    let more : pos (suc (length xs)) *ℤ q ≡ pos (length xs) *ℤ q +ℤ q = sucℤ-*ℤ (pos (length xs)) q in
-    omega (arith, ints)
+sumℤ-passed p q (x ∷ xs) = by-test (p x) (sumℤ-passed p q xs)
+  where
+    more : pos (suc (length xs)) *ℤ q ≡ pos (length xs) *ℤ q +ℤ q
+    more = sucℤ-*ℤ (pos (length xs)) q
+
+    by-test : (b : Bool) → sumℤ (λ y. cond (p y) (q +ℤ pos 1) q) xs ≡ pos (length xs) *ℤ q +ℤ pos (count p xs) → cond b (q +ℤ pos 1) q +ℤ sumℤ (λ y. cond (p y) (q +ℤ pos 1) q) xs ≡ pos (suc (length xs)) *ℤ q +ℤ pos (cond b 1 0 + count p xs)
+    by-test true before = omega (arith, ints, more)
+    by-test false before = omega (arith, ints, more)
 
 pub length-below : (n : ℕ) → length (below n) ≡ n
 length-below zero = refl

@@ -8,8 +8,8 @@ use Rattle.series.proofs.Evaluated.{values-hold}
 use Rattle.series.proofs.Terms.{sums-asked}
 use Rattle.series.proofs.harmonic_sum.Needs as need
 
-pub returns-then-not-has : need.returns-then-not-has
-returns-then-not-has g c = record { answer = search needs; restored = search needs; values = values-hold }
+pub returns-in-Break-check-words : need.returns-in-Break-check-words
+returns-in-Break-check-words g c = record { answer = search needs; restored = search needs; values = values-hold }
 
 pub returns : need.returns
 returns g c =
