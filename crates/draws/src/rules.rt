@@ -32,7 +32,11 @@ fn draws_in_range(k: u64, count: u64, draw: u64) -> Option<u64>
         return None;
     };
     let draws = bits.draws();
-    if count < draws && draw < draws { Some(draws) } else { None }
+    if count < draws && draw < draws {
+        Some(draws)
+    } else {
+        None
+    }
 }
 
 #[derive(Clone, Copy)]

@@ -44,36 +44,47 @@ fn a_list_ends(rt: LibcRuntime) -> Result<(), Fail> {
 
 #[test]
 fn draw_bits_are_1_to_32() -> Result<(), Fail> {
-    check_eq(DrawBits::new(0), Err(DrawBitsFault::OutOfRange))?;
-    check_eq(DrawBits::new(33), Err(DrawBitsFault::OutOfRange))?;
-    check_eq(DrawBits::new(u64::MAX), Err(DrawBitsFault::OutOfRange))?;
+    for k in [0, 33, u64::MAX] {
+        check_eq(DrawBits::new(k), Err(DrawBitsFault::OutOfRange))?;
+    }
     check_eq(DrawBitsFault::OutOfRange.number(), 2)?;
     check_eq(DrawBits::new(1)?.draws(), 2)?;
     check_eq(DrawBits::new(32)?.draws(), 4294967296)
 }
 
 // What a rule says of a word.
-fn said<R: Rule>(rt: &LibcRuntime, rule: &R, k: u64, count: u64, word: u32) -> Result<Neighbour, Fail> {
+fn said<R: Rule>(
+    rt: &LibcRuntime,
+    rule: &R,
+    k: u64,
+    count: u64,
+    word: u32,
+) -> Result<Neighbour, Fail> {
     let k = DrawBits::new(k)?;
     let mut source = WordList::new(vec![in rt.alloc(); word]?);
-    let word = source.take()?;
-    Ok(word.decide(rule, k, count))
+    Ok(source.take()?.decide(rule, k, count))
 }
 
 #[test]
 fn a_word_decides_by_its_high_bits(rt: LibcRuntime) -> Result<(), Fail> {
-    check_eq(said(&rt, &Comparison, 8, 129, 0x80ff_ffff)?, Neighbour::Far)?;
-    check_eq(said(&rt, &Comparison, 8, 128, 0x8000_0000)?, Neighbour::Near)?;
-    check_eq(said(&rt, &Carry, 8, 128, 0x8000_0000)?, Neighbour::Far)?;
-    check_eq(said(&rt, &Carry, 8, 127, 0x80ff_ffff)?, Neighbour::Near)?;
-    check_eq(said(&rt, &Comparison, 1, 1, 0x7fff_ffff)?, Neighbour::Far)?;
-    check_eq(said(&rt, &Carry, 32, 1, 0xffff_ffff)?, Neighbour::Far)
+    for (k, count, word, comparison, carry) in [
+        (8, 129, 0x80ff_ffff, Neighbour::Far, Neighbour::Far),
+        (8, 128, 0x8000_0000, Neighbour::Near, Neighbour::Far),
+        (8, 127, 0x80ff_ffff, Neighbour::Near, Neighbour::Near),
+        (1, 1, 0x7fff_ffff, Neighbour::Far, Neighbour::Near),
+        (32, 1, 0xffff_ffff, Neighbour::Near, Neighbour::Far),
+    ] {
+        check_eq(said(&rt, &Comparison, k, count, word)?, comparison)?;
+        check_eq(said(&rt, &Carry, k, count, word)?, carry)?;
+    }
+    Ok(())
 }
 
 #[test]
 fn outside_the_ranges_is_near() -> Result<(), Fail> {
-    check_eq(Comparison.choose(8, 256, 0), Neighbour::Near)?;
-    check_eq(Carry.choose(8, 255, 256), Neighbour::Near)?;
-    check_eq(Comparison.choose(0, 1, 0), Neighbour::Near)?;
-    check_eq(Carry.choose(33, 1, u64::MAX), Neighbour::Near)
+    for (k, count, draw) in [(8, 256, 0), (8, 255, 256), (0, 1, 0), (33, 1, u64::MAX)] {
+        check_eq(Comparison.choose(k, count, draw), Neighbour::Near)?;
+        check_eq(Carry.choose(k, count, draw), Neighbour::Near)?;
+    }
+    Ok(())
 }

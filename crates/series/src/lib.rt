@@ -34,7 +34,11 @@ fn rounded_terms<S: Source>(stretch: &Stretch<'_>, source: &mut S) -> Result<i32
 }
 
 // The code of 1 + 1/2 + .. + 1/1000 in s8.7, each term rounded by the unit in a stretch of this mode.
-pub fn harmonic_sum<S: Source>(unit: &mut RoundingUnit, mode: Mode, source: &mut S) -> Result<i32, SourceFault>
+pub fn harmonic_sum<S: Source>(
+    unit: &mut RoundingUnit,
+    mode: Mode,
+    source: &mut S,
+) -> Result<i32, SourceFault>
     ensures answer { λ r. ⌜ Sums coming mode (now (unit .entry) .settings .k .bits) (now (source .entry)) (now (source .exit)) r ⌝ }
     ensures restored { λ _. ⌜ now (unit .exit) .settings ≡ now (unit .entry) .settings ⌝ }
     ensures values { λ _. ⌜ Values ⌝ }
@@ -47,3 +51,6 @@ pub fn harmonic_sum<S: Source>(unit: &mut RoundingUnit, mode: Mode, source: &mut
     let stretch = unit.stretch(settings);
     rounded_terms(&stretch, source)
 }
+
+#[cfg(test)]
+mod tests;

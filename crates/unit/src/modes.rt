@@ -40,10 +40,12 @@ pub impl fmt::Display for Mode as ModeDisplay {
     ghost shown = { λ mode. Some (mode-name mode) };
 
     fn fmt<W: fmt::Write>(&self, f: &mut fmt::Formatter<W>) -> fmt::Result {
-        f.write_str(match self {
-            Mode::Down => "down",
-            Mode::Nearest => "nearest",
-            Mode::Stochastic => "stochastic",
-        })
+        f.write_str(
+            match self {
+                Mode::Down => "down",
+                Mode::Nearest => "nearest",
+                Mode::Stochastic => "stochastic",
+            },
+        )
     }
 }

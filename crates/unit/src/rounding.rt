@@ -3,21 +3,26 @@ ghost use mathlib.Core.Path.{_≡_};
 ghost use Prim.Native.Nat.{ℕ, _≤_};
 ghost use Rattle.unit.specs.Laws.{Unit-laws};
 ghost use Rattle.unit.specs.Rounding.{Draws-quotient, Rounds};
-use draws::Comparison;
-use draws::ComparisonRule;
-use draws::DrawBits;
-use draws::Neighbour;
-use draws::Source;
-use draws::SourceFault;
 use crate::division::clamp;
 use crate::division::divided;
 use crate::division::far_count;
 use crate::division::nearest;
 use crate::modes::Mode;
 use crate::settings::Settings;
+use draws::Comparison;
+use draws::ComparisonRule;
+use draws::DrawBits;
+use draws::Neighbour;
+use draws::Source;
+use draws::SourceFault;
 
 // The floor of x / 2^n or the next whole number, as the draw of the next word decides.
-fn drawn_quotient<S: Source>(x: i64, n: u32, k: DrawBits, source: &mut S) -> Result<i64, SourceFault>
+fn drawn_quotient<S: Source>(
+    x: i64,
+    n: u32,
+    k: DrawBits,
+    source: &mut S,
+) -> Result<i64, SourceFault>
     requires { ⌜ 1 ≤ n ⌝ ∗ ⌜ n ≤ 32 ⌝ }
     ensures { λ r. ⌜ Draws-quotient coming n (k .bits) x (now (source .entry)) (now (source .exit)) r ⌝ }
 {

@@ -5,16 +5,16 @@ ghost use Rattle.std.specs.declared.option.Option.the-variants.{Some, None};
 ghost use Rattle.std.specs.declared.result.Result.the-variants.{Ok, Err};
 ghost use Rattle.unit.specs.Modes.{mode-number};
 ghost use Rattle.unit.specs.Refusals.{settings-fault, settings-refusal};
-use draws::DrawBits;
-use draws::DrawBitsDebug;
-use draws::DrawBitsEq;
-use draws::DrawBitsPartialEq;
 use crate::faults::FromDrawBits;
 use crate::faults::SettingsFault;
 use crate::modes::Mode;
 use crate::modes::ModeDebug;
 use crate::modes::ModeEq;
 use crate::modes::ModePartialEq;
+use draws::DrawBits;
+use draws::DrawBitsDebug;
+use draws::DrawBitsEq;
+use draws::DrawBitsPartialEq;
 
 // How the unit rounds: its mode, the n of its divisor 2^n, and its number k of draw bits.
 #[derive(Clone, Copy, PartialEq, Eq, Debug)]
@@ -37,7 +37,11 @@ impl Settings {
         let Some(mode) = Mode::from_number(mode) else {
             return Err(SettingsFault::ModeOutOfRange);
         };
-        Ok(Settings { mode, n: n as u32, k })
+        Ok(Settings {
+            mode,
+            n: n as u32,
+            k,
+        })
     }
 
     pub fn mode(self) -> Mode

@@ -3,10 +3,10 @@ ghost use mathlib.Core.Path.{_≡_};
 ghost use denote.Ref.{name};
 ghost use Rattle.unit.specs.Laws.{Unit-laws};
 ghost use Rattle.unit.specs.Rounding.{Rounds};
-use draws::Source;
-use draws::SourceFault;
 use crate::rounding::RoundingUnit;
 use crate::settings::Settings;
+use draws::Source;
+use draws::SourceFault;
 
 // Holds the unit under other settings, and restores the earlier ones when it is dropped.
 pub struct Stretch<'a> {
@@ -41,11 +41,19 @@ impl RoundingUnit {
     {
         let earlier = self.settings();
         self.set_settings(settings);
-        Stretch { unit: self, earlier }
+        Stretch {
+            unit: self,
+            earlier,
+        }
     }
 
     // One rounding under other settings.
-    pub fn round_under<S: Source>(&mut self, settings: Settings, x: i64, source: &mut S) -> Result<i32, SourceFault>
+    pub fn round_under<S: Source>(
+        &mut self,
+        settings: Settings,
+        x: i64,
+        source: &mut S,
+    ) -> Result<i32, SourceFault>
         ensures answer { λ r. ⌜ Rounds coming settings x (now (source .entry)) (now (source .exit)) r ⌝ }
         ensures restored { λ _. ⌜ now (self .exit) .settings ≡ now (self .entry) .settings ⌝ }
     {

@@ -22,47 +22,58 @@ fn rounded(rt: &LibcRuntime, mode: Mode, n: u64, k: u64, x: i64, word: u32) -> R
 }
 
 #[test]
-fn rounds_to_nearest(rt: LibcRuntime) -> Result<(), Fail> {
-    check_eq(rounded(&rt, Mode::Nearest, 8, 8, 384, 0)?, 2)?;
-    check_eq(rounded(&rt, Mode::Nearest, 8, 8, -384, 0)?, -1)?;
-    check_eq(rounded(&rt, Mode::Nearest, 8, 8, 383, 0)?, 1)?;
-    check_eq(rounded(&rt, Mode::Nearest, 1, 8, i64::MAX, 0)?, 2147483647)?;
-    check_eq(rounded(&rt, Mode::Nearest, 1, 8, i64::MIN, 0)?, -2147483648)?;
-    check_eq(rounded(&rt, Mode::Nearest, 32, 8, i64::MAX, 0)?, 2147483647)?;
-    check_eq(rounded(&rt, Mode::Nearest, 32, 8, i64::MIN, 0)?, -2147483648)
-}
-
-#[test]
-fn rounds_down(rt: LibcRuntime) -> Result<(), Fail> {
-    check_eq(rounded(&rt, Mode::Down, 8, 8, 511, 0)?, 1)?;
-    check_eq(rounded(&rt, Mode::Down, 8, 8, -1, 0)?, -1)?;
-    check_eq(rounded(&rt, Mode::Down, 1, 8, 4294967295, 0)?, 2147483647)?;
-    check_eq(rounded(&rt, Mode::Down, 1, 8, 4294967296, 0)?, 2147483647)?;
-    check_eq(rounded(&rt, Mode::Down, 1, 8, -4294967297, 0)?, -2147483648)?;
-    check_eq(rounded(&rt, Mode::Down, 32, 8, i64::MIN, 0)?, -2147483648)
+fn rounds_down_and_to_nearest(rt: LibcRuntime) -> Result<(), Fail> {
+    for (mode, n, x, answer) in [
+        (Mode::Nearest, 8, 384, 2),
+        (Mode::Nearest, 8, -384, -1),
+        (Mode::Nearest, 8, 383, 1),
+        (Mode::Nearest, 1, i64::MAX, 2147483647),
+        (Mode::Nearest, 1, i64::MIN, -2147483648),
+        (Mode::Nearest, 32, i64::MAX, 2147483647),
+        (Mode::Nearest, 32, i64::MIN, -2147483648),
+        (Mode::Down, 8, 511, 1),
+        (Mode::Down, 8, -1, -1),
+        (Mode::Down, 1, 4294967295, 2147483647),
+        (Mode::Down, 1, 4294967296, 2147483647),
+        (Mode::Down, 1, -4294967297, -2147483648),
+        (Mode::Down, 32, i64::MIN, -2147483648),
+    ] {
+        check_eq(rounded(&rt, mode, n, 8, x, 0)?, answer)?;
+    }
+    Ok(())
 }
 
 #[test]
 fn rounds_at_random(rt: LibcRuntime) -> Result<(), Fail> {
-    check_eq(rounded(&rt, Mode::Stochastic, 8, 8, -384, 0x7fff_ffff)?, -1)?;
-    check_eq(rounded(&rt, Mode::Stochastic, 8, 8, -384, 0x8000_0000)?, -2)?;
-    check_eq(rounded(&rt, Mode::Stochastic, 1, 1, 1, 0x7fff_ffff)?, 1)?;
-    check_eq(rounded(&rt, Mode::Stochastic, 1, 32, 1, 0x8000_0000)?, 0)?;
-    check_eq(rounded(&rt, Mode::Stochastic, 32, 1, 2147483647, 0)?, 0)?;
-    check_eq(rounded(&rt, Mode::Stochastic, 32, 32, 1, 0)?, 1)?;
-    check_eq(rounded(&rt, Mode::Stochastic, 32, 32, 1, 1)?, 0)?;
-    check_eq(rounded(&rt, Mode::Stochastic, 1, 8, 4294967295, 0)?, 2147483647)?;
-    check_eq(rounded(&rt, Mode::Stochastic, 1, 8, -4294967299, 0)?, -2147483648)
+    for (n, k, x, word, answer) in [
+        (8, 8, -384, 0x7fff_ffff, -1),
+        (8, 8, -384, 0x8000_0000, -2),
+        (1, 1, 1, 0x7fff_ffff, 1),
+        (1, 32, 1, 0x8000_0000, 0),
+        (32, 1, 2147483647, 0, 0),
+        (32, 32, 1, 0, 1),
+        (32, 32, 1, 1, 0),
+        (1, 8, 4294967295, 0, 2147483647),
+        (1, 8, -4294967299, 0, -2147483648),
+    ] {
+        check_eq(rounded(&rt, Mode::Stochastic, n, k, x, word)?, answer)?;
+    }
+    Ok(())
 }
 
 #[test]
 fn settings_are_refused_out_of_range() -> Result<(), Fail> {
-    check_eq(Settings::new(0, 0, 8), Err(SettingsFault::ShiftOutOfRange))?;
-    check_eq(Settings::new(0, 33, 8), Err(SettingsFault::ShiftOutOfRange))?;
-    check_eq(Settings::new(1, 8, 0), Err(SettingsFault::DrawBitsOutOfRange))?;
-    check_eq(Settings::new(2, u64::MAX, 33), Err(SettingsFault::DrawBitsOutOfRange))?;
-    check_eq(Settings::new(3, 1, 32), Err(SettingsFault::ModeOutOfRange))?;
-    check_eq(SettingsFault::ModeOutOfRange.number(), 2)
+    for (mode, n, k, fault) in [
+        (0, 0, 8, SettingsFault::ShiftOutOfRange),
+        (0, 33, 8, SettingsFault::ShiftOutOfRange),
+        (1, 8, 0, SettingsFault::DrawBitsOutOfRange),
+        (2, u64::MAX, 33, SettingsFault::DrawBitsOutOfRange),
+        (3, 1, 32, SettingsFault::ModeOutOfRange),
+    ] {
+        check_eq(Settings::new(mode, n, k), Err(fault))?;
+        check_eq(fault.number(), 2)?;
+    }
+    Ok(())
 }
 
 #[test]
@@ -73,6 +84,9 @@ fn a_stretch_ends_on_every_way_out(rt: LibcRuntime) -> Result<(), Fail> {
     let mut source = WordList::new(vec![in rt.alloc(); 0u32]?);
     check_eq(unit.round_under(stochastic, 1, &mut source), Ok(1))?;
     check_eq(unit.settings(), down)?;
-    check_eq(unit.round_under(stochastic, 1, &mut source), Err(SourceFault::Exhausted))?;
+    check_eq(
+        unit.round_under(stochastic, 1, &mut source),
+        Err(SourceFault::Exhausted),
+    )?;
     check_eq(unit.settings(), down)
 }
