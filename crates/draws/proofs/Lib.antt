@@ -1,3 +1,4 @@
 pub mod Draws
 pub mod Fairness
 pub mod Lists
+pub mod Skips

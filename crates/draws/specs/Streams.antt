@@ -1,7 +1,7 @@
 -- The words still to come from a source. Assumes nothing.
 use mathlib.Core.Path.{_≡_}
 use mathlib.Core.Bool.{Bool, true}
-use Prim.Native.Nat.{ℕ, suc, _^_, _<_}
+use Prim.Native.Nat.{ℕ, zero, suc, _^_, _<_}
 
 -- a list of words, which may be endless
 pub record Stream : Type 0 where
@@ -19,3 +19,8 @@ pub record Listed (s : Stream) : Type 0 where
 -- all but the first word
 abbrev pub rest : Stream → Stream
 rest s = record { left = λ n. s .left (suc n); word = λ n. s .word (suc n) }
+
+-- what is left after m words
+abbrev pub skipped : ℕ → Stream → Stream
+skipped zero s = s
+skipped (suc m) s = rest (skipped m s)

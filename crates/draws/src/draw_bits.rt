@@ -7,6 +7,7 @@ ghost use Rattle.draws.specs.DrawBits.{bits-in-range};
 ghost use Rattle.draws.specs.Refusals.{draw-bits-refusal};
 use crate::faults::DrawBitsFault;
 
+// k, the number of bits of a draw. No value is out of range.
 #[derive(Clone, Copy, PartialEq, Eq, Debug)]
 pub struct DrawBits {
     bits: u32,
@@ -15,6 +16,7 @@ pub struct DrawBits {
 }
 
 impl DrawBits {
+    // Refuses a k that is not 1 to 32.
     pub fn new(k: u64) -> Result<DrawBits, DrawBitsFault>
         ensures { λ r. ⌜ elim r [ Ok b ↦ (bits-in-range k ≡ true) × (b .bits ≡ k) | Err e ↦ (bits-in-range k ≡ false) × (draw-bits-refusal e ≡ 2) ] ⌝ }
     {
@@ -24,6 +26,7 @@ impl DrawBits {
         Ok(DrawBits { bits: k as u32 })
     }
 
+    // k itself.
     pub fn get(self) -> u32
         ensures value { λ r. ⌜ r ≡ self .bits ⌝ }
         ensures low { λ r. ⌜ 1 ≤ r ⌝ }

@@ -13,6 +13,7 @@ pub enum DrawBitsFault {
 }
 
 impl DrawBitsFault {
+    // The number it is refused by.
     pub fn number(self) -> u32
         ensures { λ r. ⌜ r ≡ draw-bits-refusal self ⌝ }
     {
@@ -39,6 +40,7 @@ pub enum SourceFault {
 }
 
 impl SourceFault {
+    // The number it is refused by.
     pub fn number(self) -> u32
         ensures { λ r. ⌜ r ≡ source-refusal self ⌝ }
     {

@@ -11,6 +11,7 @@ pub struct Generator {
 }
 
 impl Generator {
+    // The first word is the state one step after the seed.
     pub fn new(seed: u32) -> Generator
         ensures { λ r. ⌜ r .state ≡ seed ⌝ }
     {

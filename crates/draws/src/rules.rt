@@ -1,4 +1,4 @@
-// Decision rules.
+// Decision rules: whether a rounding goes to the near or the far neighbour.
 ghost use mathlib.Core.Path.{_≡_};
 ghost use Prim.Native.Nat.{ℕ, _^_, _<_};
 ghost use mathlib.Core.Bool.{Bool, true, false};
@@ -13,6 +13,8 @@ pub enum Neighbour {
     Far,
 }
 
+// A rule by what it says: far or not, for draws of k bits, a count and a draw. Exactly `count` of the 2^k draws say far,
+// and outside the ranges it says near.
 pub trait Rule {
     ghost says: { Self → ℕ → ℕ → ℕ → Bool };
 
@@ -20,6 +22,7 @@ pub trait Rule {
 
     law outside: { (s : Self) → Near-outside (says s) };
 
+    // Answers from its three numbers alone.
     fn choose(&self, k: u64, count: u64, draw: u64) -> Neighbour
         ensures { λ r. ⌜ is-far r ≡ says (now (self .entry)) k count draw ⌝ };
 }
@@ -39,6 +42,7 @@ fn draws_in_range(k: u64, count: u64, draw: u64) -> Option<u64>
     }
 }
 
+// Far when the draw is below the count.
 #[derive(Clone, Copy)]
 pub struct Comparison;
 
@@ -53,6 +57,7 @@ pub impl Rule for Comparison as ComparisonRule {
     }
 }
 
+// Far when draw and count add up to 2^k or more.
 #[derive(Clone, Copy)]
 pub struct Carry;
 

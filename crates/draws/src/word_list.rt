@@ -15,6 +15,7 @@ pub struct WordList {
 }
 
 impl WordList {
+    // All words of the list are still to come.
     pub fn new(words: Vec<u32>) -> WordList
         ensures { λ r. ⌜ listed (vec-items (r .words)) (r .at) ≡ listed (vec-items words) 0 ⌝ }
     {

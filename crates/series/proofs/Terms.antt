@@ -17,10 +17,11 @@ use Rattle.draws.specs.declared.faults.SourceFault.{SourceFault}
 use Rattle.draws.specs.DrawBits.{draw}
 use Rattle.draws.specs.Rules.{compares}
 use Rattle.draws.specs.Streams.{Stream, Listed, rest}
+use Rattle.draws.proofs.Skips.{skipped-left, skipped-word, fewer-left}
 use Rattle.unit.specs.declared.modes.Mode.{Mode}
 use Rattle.unit.specs.declared.modes.Mode.the-variants.{Down, Nearest, Stochastic}
 use Rattle.unit.specs.Rounding.{clamped, rounded, far-count, Leaves}
-use Rattle.series.specs.Harmonic.{term, series, skipped, Leaves-all, Sums, Sums-surely}
+use Rattle.series.specs.Harmonic.{term, series, Sums, Sums-surely}
 
 pub series-none : (mode : Mode) (k : ℕ) (word : ℕ → ℕ) → series mode k word 0 ≡ pos 128
 unfolding series
@@ -29,20 +30,6 @@ series-none mode k word = refl
 pub series-more : (mode : Mode) (k : ℕ) (word : ℕ → ℕ) (m : ℕ) → series mode k word (suc m) ≡ series mode k word m +ℤ term mode k word (2 + m)
 unfolding series
 series-more mode k word m = omega (arith, ints)
-
--- after m words, the next ones are the m-th and those after it
-skipped-left : (m n : ℕ) (s : Stream) → skipped m s .left n ≡ s .left (m + n)
-skipped-left zero n s = ap (s .left) (omega arith)
-skipped-left (suc m) n s = skipped-left m (suc n) s ∙ ap (s .left) (omega arith)
-
-skipped-word : (m n : ℕ) (s : Stream) → skipped m s .word n ≡ s .word (m + n)
-skipped-word zero n s = ap (s .word) (omega arith)
-skipped-word (suc m) n s = skipped-word m (suc n) s ∙ ap (s .word) (omega arith)
-
--- where n words are left, so are fewer
-fewer-left : (s : Stream) → Listed s → (m n : ℕ) → s .left (m + n) ≡ true → s .left n ≡ true
-fewer-left s l zero n h = ap (s .left) (omega arith) ∙ h
-fewer-left s l (suc m) n h = fewer-left s l m n (l .fewer (m + n) (ap (s .left) (omega arith) ∙ h))
 
 -- a rounded term is small
 chosen-small : (a : ℕ) (up : Bool) → a ≤ 65536 → (pos 0 ≤ℤ clamped (cond up (floor (pos a) (2 ^ 9) +ℤ pos 1) (floor (pos a) (2 ^ 9)))) × (clamped (cond up (floor (pos a) (2 ^ 9) +ℤ pos 1) (floor (pos a) (2 ^ 9))) ≤ℤ pos 129)
@@ -59,38 +46,40 @@ pub record Summed {S : Type 0} (coming : S → Stream) (mode : Mode) (k m : ℕ)
   pub value : sum ≡ series mode k (coming before .word) m
   pub low : pos 0 ≤ℤ sum
   pub high : sum ≤ℤ pos (128 + 129 * m)
-  pub left : Leaves-all coming mode m before now
+  pub left : Leaves coming mode m before now
 
-pub summed-none : {S : Type 0} (coming : S → Stream) (mode : Mode) (k : ℕ) (s : S) → Summed coming mode k 0 s s (pos 128)
-summed-none coming mode k s = record {
+pub summed-none : {S : Type 0} (coming : S → Stream) (mode : Mode) (k : ℕ) (s : S) → Listed (coming s) → Summed coming mode k 0 s s (pos 128)
+summed-none coming mode k s l = record {
   value = sym (series-none mode k (coming s .word));
   low = omega (arith, ints);
   high = omega (arith, ints);
   left = none mode;
 }
   where
-    none : (mode : Mode) → Leaves-all coming mode 0 s s
+    none : (mode : Mode) → Leaves coming mode 0 s s
     none Down = refl
     none Nearest = refl
-    none Stochastic = refl
+    none Stochastic = (l .none, refl)
 
 module _ {S : Type 0} (coming : S → Stream) (k m : ℕ) (before now : S) where
   -- the draw of the next word counts only where words are taken
-  term-next : (mode : Mode) → Leaves-all coming mode m before now → rounded mode 9 k (pos (65536 / (2 + m))) (draw k (coming now .word 0)) ≡ term mode k (coming before .word) (2 + m)
+  term-next : (mode : Mode) → Leaves coming mode m before now → rounded mode 9 k (pos (65536 / (2 + m))) (draw k (coming now .word 0)) ≡ term mode k (coming before .word) (2 + m)
   term-next Down e = refl
   term-next Nearest e = refl
   term-next Stochastic e =
       let place : m + 0 ≡ (2 + m) - 2 = omega arith in
-      let word : coming now .word 0 ≡ coming before .word ((2 + m) - 2) = ap (λ (s : Stream). s .word 0) e ∙ skipped-word m 0 (coming before) ∙ ap (coming before .word) place in
+      let word : coming now .word 0 ≡ coming before .word ((2 + m) - 2) = ap (λ (s : Stream). s .word 0) (e .1) ∙ skipped-word m 0 (coming before) ∙ ap (coming before .word) place in
       ap (λ (w : ℕ). rounded Stochastic 9 k (pos (65536 / (2 + m))) (draw k w)) word
 
-  leaves-more : (mode : Mode) (after : S) → Leaves-all coming mode m before now → Leaves coming mode now after → Leaves-all coming mode (suc m) before after
+  leaves-more : (mode : Mode) (after : S) → Leaves coming mode m before now → Leaves coming mode 1 now after → Leaves coming mode (suc m) before after
   leaves-more Down after e f = f ∙ e
   leaves-more Nearest after e f = f ∙ e
-  leaves-more Stochastic after e f = f .1 ∙ ap rest e
+  leaves-more Stochastic after e f =
+      let place : suc m ≡ m + 1 = omega arith in
+      (ap (coming before .left) place ∙ sym (skipped-left m 1 (coming before)) ∙ sym (ap (λ (s : Stream). s .left 1) (e .1)) ∙ f .0, f .1 ∙ ap rest (e .1))
 
   -- one term more
-  pub summed-more : (mode : Mode) (after : S) (sum v : ℤ) → Summed coming mode k m before now sum → v ≡ rounded mode 9 k (pos (65536 / (2 + m))) (draw k (coming now .word 0)) → Leaves coming mode now after → Summed coming mode k (suc m) before after (sum +ℤ v)
+  pub summed-more : (mode : Mode) (after : S) (sum v : ℤ) → Summed coming mode k m before now sum → v ≡ rounded mode 9 k (pos (65536 / (2 + m))) (draw k (coming now .word 0)) → Leaves coming mode 1 now after → Summed coming mode k (suc m) before after (sum +ℤ v)
   summed-more mode after sum v so e f =
       let small = term-small mode k (65536 / (2 + m)) (draw k (coming now .word 0)) (div-le-self 65536 (2 + m)) in
       let next : v ≡ term mode k (coming before .word) (2 + m) = e ∙ term-next mode (so .left) in
@@ -104,7 +93,7 @@ module _ {S : Type 0} (coming : S → Stream) (k m : ℕ) (before now : S) where
       }
 
   -- the same as the machine adds it: x is what is rounded, and n counts the terms
-  pub summed-added : (mode : Mode) (after : S) (shift n : ℕ) (sum v x : ℤ) → m < 999 → n ≡ suc m → shift ≡ 9 → x ≡ pos (65536 / (2 + m)) → SFits w32 v → Summed coming mode k m before now sum → v ≡ rounded mode shift k x (draw k (coming now .word 0)) → Leaves coming mode now after → Summed coming mode k n before after (toZ w32 (ofZ w32 (sum +ℤ toZ w32 (ofZ w32 v))))
+  pub summed-added : (mode : Mode) (after : S) (shift n : ℕ) (sum v x : ℤ) → m < 999 → n ≡ suc m → shift ≡ 9 → x ≡ pos (65536 / (2 + m)) → SFits w32 v → Summed coming mode k m before now sum → v ≡ rounded mode shift k x (draw k (coming now .word 0)) → Leaves coming mode 1 now after → Summed coming mode k n before after (toZ w32 (ofZ w32 (sum +ℤ toZ w32 (ofZ w32 v))))
   summed-added mode after shift n sum v x lt count nine exact fits so e f =
       let same : v ≡ rounded mode 9 k (pos (65536 / (2 + m))) (draw k (coming now .word 0)) = e ∙ ap₂ (λ (j : ℕ) (z : ℤ). rounded mode j k z (draw k (coming now .word 0))) nine exact in
       let more = summed-more mode after sum v so same f in
@@ -112,10 +101,10 @@ module _ {S : Type 0} (coming : S → Stream) (k m : ℕ) (before now : S) where
       subst (λ (z : ℤ). Summed coming mode k n before after z) whole (subst (λ (j : ℕ). Summed coming mode k j before after (sum +ℤ v)) (sym count) more)
 
   -- where 999 words were left at first, one is left before each term
-  pub word-left : Listed (coming before) → m < 999 → coming before .left 999 ≡ true → Leaves-all coming Stochastic m before now → coming now .left 1 ≡ true
+  pub word-left : Listed (coming before) → m < 999 → coming before .left 999 ≡ true → Leaves coming Stochastic m before now → coming now .left 1 ≡ true
   word-left l lt enough e =
       let place : (998 - m) + (m + 1) ≡ 999 = omega arith in
-      ap (λ (s : Stream). s .left 1) e ∙ skipped-left m 1 (coming before) ∙ fewer-left (coming before) l (998 - m) (m + 1) (ap (coming before .left) place ∙ enough)
+      ap (λ (s : Stream). s .left 1) (e .1) ∙ skipped-left m 1 (coming before) ∙ fewer-left (coming before) l (998 - m) (m + 1) (ap (coming before .left) place ∙ enough)
 
 -- a sum that is never refused, under settings that are the ones asked for
 pub sums-asked : {S : Type 0} (coming : S → Stream) {mode mode′ : Mode} {k k′ : ℕ} (before after : S) (r : Result ℤ SourceFault) → mode ≡ mode′ → k ≡ k′ → Sums-surely coming mode k before after r → Sums coming mode′ k′ before after r

@@ -1,7 +1,7 @@
 -- The harmonic series in s8.7: signed numbers of 16 bits, 7 of them fraction. Assumes nothing.
 use mathlib.Core.Bool.{true, false}
 use mathlib.Core.Path.{_≡_}
-use Prim.Native.Nat.{ℕ, zero, suc, _-_, _/_}
+use Prim.Native.Nat.{ℕ, _-_, _/_}
 use lib.IntN.{ℤ, pos, _+ℤ_}
 use Rattle.std.specs.declared.result.Result.{Result}
 use Rattle.std.specs.declared.result.Result.the-variants.{Ok, Err}
@@ -9,10 +9,10 @@ use Rattle.whole.specs.Sums.{sumℤ, span}
 use Rattle.draws.specs.declared.faults.SourceFault.{SourceFault}
 use Rattle.draws.specs.DrawBits.{draw}
 use Rattle.draws.specs.Refusals.{source-refusal}
-use Rattle.draws.specs.Streams.{Stream, rest}
+use Rattle.draws.specs.Streams.{Stream}
 use Rattle.unit.specs.declared.modes.Mode.{Mode}
 use Rattle.unit.specs.declared.modes.Mode.the-variants.{Down, Nearest, Stochastic}
-use Rattle.unit.specs.Rounding.{rounded}
+use Rattle.unit.specs.Rounding.{rounded, Leaves}
 
 -- 1 / i as a code with 7 fractional bits, rounded from 16
 abbrev pub term : Mode → ℕ → (ℕ → ℕ) → ℕ → ℤ
@@ -26,17 +26,6 @@ series mode k word n = pos 128 +ℤ sumℤ (term mode k word) (span 2 n)
 abbrev pub harmonic : Mode → ℕ → (ℕ → ℕ) → ℤ
 harmonic mode k word = series mode k word 999
 
--- the words that are left after m others
-abbrev pub skipped : ℕ → Stream → Stream
-skipped zero s = s
-skipped (suc m) s = rest (skipped m s)
-
--- what m roundings leave of the source
-abbrev pub Leaves-all : {S : Type 0} → (S → Stream) → Mode → ℕ → S → S → Type 0
-Leaves-all coming Down m before after = after ≡ before
-Leaves-all coming Nearest m before after = after ≡ before
-Leaves-all coming Stochastic m before after = coming after ≡ skipped m (coming before)
-
 -- whether there are words for the 999 terms
 abbrev pub Enough : {S : Type 0} → (S → Stream) → Mode → S → Result (Unit {0}) SourceFault → Type 0
 Enough coming mode source (Ok _) = mode ≡ Stochastic → coming source .left 999 ≡ true
@@ -44,12 +33,12 @@ Enough coming mode source (Err e) = (mode ≡ Stochastic) × (coming source .lef
 
 -- the sum of the series, with no refusal
 abbrev pub Sums-surely : {S : Type 0} → (S → Stream) → Mode → ℕ → S → S → Result ℤ SourceFault → Type 0
-Sums-surely coming mode k before after (Ok v) = (v ≡ harmonic mode k (coming before .word)) × Leaves-all coming mode 999 before after
+Sums-surely coming mode k before after (Ok v) = (v ≡ harmonic mode k (coming before .word)) × Leaves coming mode 999 before after
 Sums-surely coming mode k before after (Err e) = ⊥
 
 -- The sum of the series; in the stochastic mode refusal 8 where fewer than 999 words are left, and the source is as before.
 abbrev pub Sums : {S : Type 0} → (S → Stream) → Mode → ℕ → S → S → Result ℤ SourceFault → Type 0
-Sums coming mode k before after (Ok v) = (v ≡ harmonic mode k (coming before .word)) × Leaves-all coming mode 999 before after
+Sums coming mode k before after (Ok v) = (v ≡ harmonic mode k (coming before .word)) × Leaves coming mode 999 before after
 Sums coming mode k before after (Err e) =
     (mode ≡ Stochastic) × (coming before .left 999 ≡ false) × (source-refusal e ≡ 8) × (after ≡ before)
 

@@ -1,4 +1,7 @@
-// The harmonic series in s8.7, rounded by the unit.
+// The harmonic series in s8.7, 16-bit fixed point with 7 fractional bits.
+//
+// `harmonic_sum` adds up 1 + 1/2 + .. + 1/1000, each term rounded by the rounding unit. Its contract gives the answer as a sum
+// over the terms in every mode, and its value rounded down and to nearest.
 ghost use mathlib.Core.Bool.{true};
 ghost use mathlib.Core.Path.{_≡_};
 ghost use Prim.Native.Nat.{ℕ};

@@ -10,7 +10,7 @@ use Rattle.draws.specs.declared.faults.SourceFault.{SourceFault}
 use Rattle.draws.specs.DrawBits.{draw}
 use Rattle.draws.specs.Refusals.{source-refusal}
 use Rattle.draws.specs.Rules.{compares}
-use Rattle.draws.specs.Streams.{Stream, rest}
+use Rattle.draws.specs.Streams.{Stream, rest, skipped}
 use Rattle.unit.specs.declared.modes.Mode.{Mode}
 use Rattle.unit.specs.declared.modes.Mode.the-variants.{Down, Nearest, Stochastic}
 use Rattle.unit.specs.declared.settings.Settings.{Settings}
@@ -39,15 +39,15 @@ Draws-quotient coming n k x before after (Ok v) =
     (coming before .left 1 ≡ true) × (v ≡ quotient Stochastic n k x (draw k (coming before .word 0))) × (coming after ≡ rest (coming before))
 Draws-quotient coming n k x before after (Err e) = (coming before .left 1 ≡ false) × (source-refusal e ≡ 8) × (after ≡ before)
 
--- what a rounding leaves of the source: all of it, but for the stochastic mode, which takes a word
-abbrev pub Leaves : {S : Type 0} → (S → Stream) → Mode → S → S → Type 0
-Leaves coming Down before after = after ≡ before
-Leaves coming Nearest before after = after ≡ before
-Leaves coming Stochastic before after = (coming before .left 1 ≡ true) × (coming after ≡ rest (coming before))
+-- what m roundings leave of the source: all of it, but for the stochastic mode, which takes a word for each
+abbrev pub Leaves : {S : Type 0} → (S → Stream) → Mode → ℕ → S → S → Type 0
+Leaves coming Down m before after = after ≡ before
+Leaves coming Nearest m before after = after ≡ before
+Leaves coming Stochastic m before after = (coming before .left m ≡ true) × (coming after ≡ skipped m (coming before))
 
 -- A rounding of x answers by the draw of the next word; the stochastic mode refuses by 8 where no word is left.
 abbrev pub Rounds : {S : Type 0} → (S → Stream) → Settings → ℤ → S → S → Result ℤ SourceFault → Type 0
 Rounds coming s x before after (Ok v) =
-    (v ≡ rounded (s .mode) (s .n) (s .k .bits) x (draw (s .k .bits) (coming before .word 0))) × Leaves coming (s .mode) before after
+    (v ≡ rounded (s .mode) (s .n) (s .k .bits) x (draw (s .k .bits) (coming before .word 0))) × Leaves coming (s .mode) 1 before after
 Rounds coming s x before after (Err e) =
     (s .mode ≡ Stochastic) × (coming before .left 1 ≡ false) × (source-refusal e ≡ 8) × (after ≡ before)

@@ -17,6 +17,7 @@ pub enum SettingsFault {
 }
 
 impl SettingsFault {
+    // The number it is refused by.
     pub fn number(self) -> u32
         ensures { λ r. ⌜ r ≡ settings-refusal self ⌝ }
     {

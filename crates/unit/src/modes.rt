@@ -5,6 +5,7 @@ ghost use Rattle.std.specs.declared.option.Option.the-variants.{Some, None};
 ghost use Rattle.unit.specs.Modes.{mode-number, mode-name};
 use std::fmt;
 
+// How a quotient becomes a whole number: the floor, the nearest, or one of its two neighbours at random.
 #[derive(Clone, Copy, PartialEq, Eq, Debug)]
 pub enum Mode {
     Down,
@@ -13,7 +14,7 @@ pub enum Mode {
 }
 
 impl Mode {
-    // The mode of a number, if it is one's.
+    // The mode that has this number, if one has.
     pub fn from_number(number: u64) -> Option<Mode>
         ensures { λ r. ⌜ elim r [ Some mode ↦ mode-number mode ≡ number | None ↦ 2 < number ] ⌝ }
     {
@@ -25,6 +26,7 @@ impl Mode {
         }
     }
 
+    // The number of the mode: 0, 1 or 2.
     pub fn number(self) -> u64
         ensures { λ r. ⌜ r ≡ mode-number self ⌝ }
     {

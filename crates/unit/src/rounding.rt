@@ -48,31 +48,35 @@ fn rounded<S: Source>(settings: Settings, x: i64, source: &mut S) -> Result<i32,
     Ok(clamp(quotient))
 }
 
+// Divides by 2^n and rounds, as its settings say.
 #[derive(Drop)]
 pub struct RoundingUnit {
     settings: Settings,
 }
 
 impl RoundingUnit {
+    // A unit with these settings.
     pub fn new(settings: Settings) -> RoundingUnit
         ensures { λ r. ⌜ r .settings ≡ settings ⌝ }
     {
         RoundingUnit { settings }
     }
 
+    // The settings it has now.
     pub fn settings(&self) -> Settings
         ensures { λ r. ⌜ r ≡ now (self .entry) .settings ⌝ }
     {
         self.settings
     }
 
+    // Replaces the settings.
     pub fn set_settings(&mut self, settings: Settings)
         ensures { λ _. ⌜ now (self .exit) .settings ≡ settings ⌝ }
     {
         *self = RoundingUnit { settings };
     }
 
-    // x / 2^n as a signed 32-bit number.
+    // x / 2^n as a signed 32-bit number. The stochastic mode takes a word, and refuses where none is left.
     pub fn round<S: Source>(&self, x: i64, source: &mut S) -> Result<i32, SourceFault>
         ensures answer { λ r. ⌜ Rounds coming (now (self .entry) .settings) x (now (source .entry)) (now (source .exit)) r ⌝ }
         ensures settings { λ _. ⌜ now (self .exit) .settings ≡ now (self .entry) .settings ⌝ }

@@ -27,6 +27,7 @@ pub struct Settings {
 }
 
 impl Settings {
+    // Refuses where k, n or the mode's number is out of range, in every mode.
     pub fn new(mode: u64, n: u64, k: u64) -> Result<Settings, SettingsFault>
         ensures { λ r. ⌜ elim r [ Ok s ↦ (settings-fault mode n k ≡ None) × (mode-number (s .mode) ≡ mode) × (s .n ≡ n) × (s .k .bits ≡ k) | Err e ↦ (settings-fault mode n k ≡ Some e) × (settings-refusal e ≡ 2) ] ⌝ }
     {
@@ -44,12 +45,14 @@ impl Settings {
         })
     }
 
+    // The mode.
     pub fn mode(self) -> Mode
         ensures { λ r. ⌜ r ≡ self .mode ⌝ }
     {
         self.mode
     }
 
+    // n: the unit divides by 2^n.
     pub fn shift(self) -> u32
         ensures value { λ r. ⌜ r ≡ self .n ⌝ }
         ensures low { λ r. ⌜ 1 ≤ r ⌝ }
@@ -58,6 +61,7 @@ impl Settings {
         self.n
     }
 
+    // k: a draw has k bits.
     pub fn draw_bits(self) -> DrawBits
         ensures { λ r. ⌜ r ≡ self .k ⌝ }
     {

@@ -1,7 +1,6 @@
 // A stretch: other settings for a while.
 ghost use mathlib.Core.Path.{_≡_};
 ghost use denote.Ref.{name};
-ghost use Rattle.unit.specs.Laws.{Unit-laws};
 ghost use Rattle.unit.specs.Rounding.{Rounds};
 use crate::rounding::RoundingUnit;
 use crate::settings::Settings;

@@ -8,14 +8,14 @@ use mir.Val.{SFits, toZ, ofZ}
 use borrow.Author.Needs.{needs}
 use Rattle.std.proofs.shelf.Signed.{toZ-ofZ}
 use Rattle.unit.specs.declared.modes.Mode.{Mode}
-use Rattle.series.specs.Harmonic.{Leaves-all}
+use Rattle.unit.specs.Rounding.{Leaves}
 use Rattle.series.proofs.Terms.{summed-none, summed-added, word-left}
 use Rattle.series.proofs.rounded_terms.Needs as need
 
 pub loop-i-holds : need.loop-i-holds
 loop-i-holds g c =
     let s = c .args .stretch .now .unit .now .settings in
-    summed-none (g .S·Source .coming) (s .mode) (s .k .bits) (c .args .source .now)
+    summed-none (g .S·Source .coming) (s .mode) (s .k .bits) (c .args .source .now) (g .S·Source·met .listed (c .args .source .now))
 
 -- a word is left before each term, so no rounding is refused
 pub returns-in-Break-sum : need.returns-in-Break-sum
@@ -25,7 +25,7 @@ returns-in-Break-sum g c =
     let coming = g .S·Source .coming in
     let m : ℕ = c .loop-i .i - 2 in
     let told = c .in-Break-sum .ensures tt .answer in
-    let so = subst (λ (mode : Mode). Leaves-all coming mode m before now) (told .0) (c .loop-i .inv .left) in
+    let so = subst (λ (mode : Mode). Leaves coming mode m before now) (told .0) (c .loop-i .inv .left) in
     let some : coming now .left 1 ≡ true = word-left coming 0 m before now (g .S·Source·met .listed before) (omega (arith, c .loop-i-test .taken)) (c .pre .1 (told .0)) so in
     let none : coming now .left 1 ≡ false = told .1 in
     let z : _≡_ {A = ℕ} 0 1 = cc in
