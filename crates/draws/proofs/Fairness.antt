@@ -1,11 +1,9 @@
 -- Both rules say far on an interval of as many draws as the count says. Assumes nothing.
 use mathlib.Core.Path.{_≡_, _∙_}
-use mathlib.Core.Bool.{Bool, true, false, _&&_}
 use Prim.Native.Nat.{ℕ, _+_, _-_, _^_, _<_, _≤_}
 use native.Mathlib.Omega.{arith}
-use lib.Dec.{ltb, leb}
 use Rattle.std.proofs.shelf.Ways.{tells}
-use Rattle.whole.specs.Sums.{count, below}
+use Rattle.whole.specs.Sums.{count}
 use Rattle.whole.proofs.Counts.{within, count-same, count-within}
 use Rattle.draws.specs.Rules.{Says, Fair, compares, carries}
 

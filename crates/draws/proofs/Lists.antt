@@ -1,13 +1,11 @@
 -- The words of both sources are lists of 32-bit words. Assumes nothing.
-use mathlib.Core.Path.{_≡_, refl}
-use mathlib.Core.Bool.{true}
+use mathlib.Core.Path.{refl}
 use mathlib.Core.List.{List}
-use Prim.Native.Nat.{ℕ, zero, suc, _+_, _%_, _^_, _<_, _≤_}
+use Prim.Native.Nat.{ℕ, zero, suc, _^_, _<_, _≤_}
 use native.Mathlib.Omega.{arith}
-use lib.Dec.{leb}
 use lib.ListN.{length}
 use Rattle.std.proofs.shelf.Ways.{tells}
-use Rattle.draws.specs.Streams.{Stream, Listed}
+use Rattle.draws.specs.Streams.{Listed}
 use Rattle.draws.specs.Sequences.{listed, stepped, after, generated}
 
 pub list-listed : (words : List ℕ) (at : ℕ) → at ≤ length words → Listed (listed words at)

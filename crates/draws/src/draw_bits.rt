@@ -1,6 +1,6 @@
 // The number of bits of a draw, 1 to 32.
 ghost use mathlib.Core.Path.{_≡_};
-ghost use Prim.Native.Nat.{ℕ, _^_, _≤_};
+ghost use Prim.Native.Nat.{_^_, _≤_};
 ghost use mathlib.Core.Bool.{true, false};
 ghost use Rattle.std.specs.declared.result.Result.the-variants.{Ok, Err};
 ghost use Rattle.draws.specs.DrawBits.{bits-in-range};

@@ -1,6 +1,5 @@
 // Words, the sources they are taken from, and the step that spends one.
 ghost use mathlib.Core.Path.{_≡_};
-ghost use Prim.Native.Nat.{ℕ};
 ghost use Rattle.draws.specs.DrawBits.{draw};
 ghost use Rattle.draws.specs.Rules.{is-far};
 ghost use Rattle.draws.specs.Streams.{Stream, Listed};

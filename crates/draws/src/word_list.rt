@@ -1,6 +1,6 @@
 // The source that is a handed list.
 ghost use mathlib.Core.Path.{_≡_};
-ghost use Prim.Native.Nat.{ℕ, _≤_};
+ghost use Prim.Native.Nat.{_≤_};
 ghost use Rattle.std.specs.Of.Vec.{vec-items, vec-len};
 ghost use Rattle.draws.specs.Sequences.{listed};
 use crate::faults::SourceFault;

@@ -4,7 +4,6 @@
 // over the terms in every mode, and its value rounded down and to nearest.
 ghost use mathlib.Core.Bool.{true};
 ghost use mathlib.Core.Path.{_≡_};
-ghost use Prim.Native.Nat.{ℕ};
 ghost use Rattle.unit.specs.declared.modes.Mode.the-variants.{Stochastic};
 ghost use Rattle.series.specs.Harmonic.{Enough, Sums, Sums-surely, Values};
 use draws::Source;

@@ -1,6 +1,6 @@
 -- What the unit answers for x, under each mode. Assumes nothing.
 use mathlib.Core.Path.{_≡_}
-use mathlib.Core.Bool.{Bool, true, false, cond}
+use mathlib.Core.Bool.{true, false, cond}
 use Prim.Native.Nat.{ℕ, _-_, _*_, _/_, _^_, min}
 use lib.IntN.{ℤ, pos, negsuc, _+ℤ_}
 use Rattle.std.specs.declared.result.Result.{Result}

@@ -1,6 +1,6 @@
 // The rounding modes.
 ghost use mathlib.Core.Path.{_≡_};
-ghost use Prim.Native.Nat.{ℕ, _<_};
+ghost use Prim.Native.Nat.{_<_};
 ghost use Rattle.std.specs.declared.option.Option.the-variants.{Some, None};
 ghost use Rattle.unit.specs.Modes.{mode-number, mode-name};
 use std::fmt;

@@ -1,6 +1,6 @@
 // The unit and one rounding under its settings.
 ghost use mathlib.Core.Path.{_≡_};
-ghost use Prim.Native.Nat.{ℕ, _≤_};
+ghost use Prim.Native.Nat.{_≤_};
 ghost use Rattle.unit.specs.Laws.{Unit-laws};
 ghost use Rattle.unit.specs.Rounding.{Draws-quotient, Rounds};
 use crate::division::clamp;

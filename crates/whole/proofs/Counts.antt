@@ -1,12 +1,11 @@
 -- How many of the numbers below n lie in an interval. Assumes nothing.
 use mathlib.Core.Path.{_≡_, refl, ap₂}
-use mathlib.Core.Bool.{Bool, true, false, cond, _&&_}
-use mathlib.Core.List.{List, [], _∷_}
-use Prim.Native.Nat.{ℕ, zero, suc, _+_, _-_, _<_, _≤_, min}
+use mathlib.Core.Bool.{Bool, cond, _&&_}
+use Prim.Native.Nat.{ℕ, zero, suc, _+_, _-_, _<_, min}
 use native.Mathlib.Omega.{arith}
 use lib.Dec.{ltb, leb}
 use Rattle.std.proofs.shelf.Ways.{tells}
-use Rattle.whole.specs.Sums.{sum, count, below}
+use Rattle.whole.specs.Sums.{count, below}
 
 -- tests that agree on every number below n pass equally often
 pub count-same : (n : ℕ) (p q : ℕ → Bool) → ((d : ℕ) → d < n → p d ≡ q d) → count p (below n) ≡ count q (below n)

@@ -1,10 +1,10 @@
 -- Sums over a list. Assumes nothing.
 use mathlib.Core.Bool.{Bool, true, false, cond}
 use mathlib.Core.List.{List, [], _∷_}
-use mathlib.Core.Path.{_≡_, refl, sym, ap, ap₂, _∙_}
+use mathlib.Core.Path.{_≡_, refl, sym, ap, ap₂}
 use Prim.Native.Nat.{ℕ, zero, suc, _+_}
 use native.Mathlib.Omega.{arith}
-use lib.IntN.{ℤ, pos, _+ℤ_, _*ℤ_, sucℤ-*ℤ, zero-*ℤ, +ℤ-idl}
+use lib.IntN.{ℤ, pos, _+ℤ_, _*ℤ_, sucℤ-*ℤ, zero-*ℤ}
 use lib.ListN.{length}
 use Rattle.std.proofs.shelf.Signed.{ints}
 use Rattle.whole.specs.Sums.{sumℤ, count, below}

@@ -1,8 +1,6 @@
 use borrow.Author.Needs.{needs}
 use mathlib.Core.Path.{_≡_, ap, _∙_}
-use Prim.Native.Nat.{ℕ}
 use Rattle.unit.specs.declared.settings.Settings.{Settings}
-use Rattle.unit.specs.Modes.{mode-number}
 use Rattle.unit.proofs.ModeNumbers.{same-mode}
 use Rattle.series.proofs.Evaluated.{values-hold}
 use Rattle.series.proofs.Terms.{sums-asked}
