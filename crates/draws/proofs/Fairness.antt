@@ -15,8 +15,10 @@ fair-within says low fits agree k R least most lt =
     ∙ count-within (2 ^ k) (low k R) (low k R + R)
     ∙ omega arith
 
+-- the comparison rule says far from 0 on
 pub compares-fair : Fair compares
 compares-fair = fair-within compares (λ k R. 0) (λ k R h. omega arith) (λ k R d least most lt h. grind (arith, tells))
 
+-- the carry rule says far from 2 ^ k - R on
 pub carries-fair : Fair carries
 carries-fair = fair-within carries (λ k R. 2 ^ k - R) (λ k R h. omega arith) (λ k R d least most lt h. grind (arith, tells))

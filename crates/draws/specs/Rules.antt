@@ -8,6 +8,7 @@ use Rattle.draws.specs.DrawBits.{bits-in-range}
 use Rattle.draws.specs.declared.rules.Neighbour.{Neighbour}
 use Rattle.draws.specs.declared.rules.Neighbour.the-variants.{Near, Far}
 
+-- near is false, far is true
 abbrev pub is-far : Neighbour → Bool
 is-far Near = false
 is-far Far = true

@@ -2,6 +2,7 @@
 use mathlib.Core.Path.{refl}
 use Rattle.series.specs.Harmonic.{series, Values}
 
+-- 999 terms each, whatever k and the words are
 pub values-hold : Values
 unfolding series
 values-hold k word = (refl, refl)

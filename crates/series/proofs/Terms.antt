@@ -22,10 +22,12 @@ use Rattle.unit.specs.declared.modes.Mode.the-variants.{Down, Nearest, Stochast
 use Rattle.unit.specs.Rounding.{clamped, rounded, far-count, Leaves}
 use Rattle.series.specs.Harmonic.{term, series, Sums, Sums-surely}
 
+-- no term yet
 pub series-none : (mode : Mode) (k : ℕ) (word : ℕ → ℕ) → series mode k word 0 ≡ pos 128
 unfolding series
 series-none mode k word = refl
 
+-- one term more, which is the one of 2 + m
 pub series-more : (mode : Mode) (k : ℕ) (word : ℕ → ℕ) (m : ℕ) → series mode k word (suc m) ≡ series mode k word m +ℤ term mode k word (2 + m)
 unfolding series
 series-more mode k word m = omega (arith, ints)
@@ -35,6 +37,7 @@ chosen-small : (a : ℕ) (up : Bool) → a ≤ 65536 → (pos 0 ≤ℤ clamped (
 chosen-small a true h = (omega (arith, ints), omega (arith, ints))
 chosen-small a false h = (omega (arith, ints), omega (arith, ints))
 
+-- in every mode
 term-small : (mode : Mode) (k a d : ℕ) → a ≤ 65536 → (pos 0 ≤ℤ rounded mode 9 k (pos a) d) × (rounded mode 9 k (pos a) d ≤ℤ pos 129)
 term-small Down k a d h = (omega (arith, ints), omega (arith, ints))
 term-small Nearest k a d h = (omega (arith, ints), omega (arith, ints))
@@ -47,6 +50,7 @@ pub record Summed {S : Type 0} (coming : S → Stream) (mode : Mode) (k m : ℕ)
   pub high : sum ≤ℤ pos (128 + 129 * m)
   pub left : Leaves coming mode m before now
 
+-- before the first term
 pub summed-none : {S : Type 0} (coming : S → Stream) (mode : Mode) (k : ℕ) (s : S) → Listed (coming s) → Summed coming mode k 0 s s (pos 128)
 summed-none coming mode k s l = record {
   value = sym (series-none mode k (coming s .word));
@@ -70,6 +74,7 @@ module _ {S : Type 0} (coming : S → Stream) (k m : ℕ) (before now : S) where
       let word : coming now .word 0 ≡ coming before .word ((2 + m) - 2) = ap (λ (s : Stream). s .word 0) (e .1) ∙ skipped-word m 0 (coming before) ∙ ap (coming before .word) place in
       ap (λ (w : ℕ). rounded Stochastic 9 k (pos (65536 / (2 + m))) (draw k w)) word
 
+  -- what m roundings and one more leave
   leaves-more : (mode : Mode) (after : S) → Leaves coming mode m before now → Leaves coming mode 1 now after → Leaves coming mode (suc m) before after
   leaves-more Down after e f = f ∙ e
   leaves-more Nearest after e f = f ∙ e

@@ -30,6 +30,7 @@ floor-room (pos a) n some fits =
     omega (arith, ints)
 floor-room (negsuc a) n some fits = omega (arith, ints)
 
+-- the bits of a negative number are what it lacks of 2 ^ 64
 bits-mod : (x : ℤ) (n : ℕ) → n ≤ 32 → SFits w64 x → ofZ w64 x % 2 ^ n ≡ modulo x (2 ^ n)
 bits-mod (pos a) n h fits = refl
 bits-mod (negsuc a) n h fits =

@@ -19,10 +19,12 @@ use Rattle.unit.specs.Rounding.{clamped, far-count, quotient, rounded}
 use Rattle.unit.specs.Laws.{Signed32, Clamps, Closest, Mean, Unit-laws}
 use Rattle.unit.proofs.Halves.{halved}
 
+-- what fits is not changed
 clamped-inside : (z : ℤ) → Signed32 z → clamped z ≡ z
 clamped-inside (pos a) h = omega (arith, ints, h .most)
 clamped-inside (negsuc a) h = omega (arith, ints, h .least)
 
+-- clamping keeps its law
 pub clamps : (z : ℤ) → Clamps z
 clamps (pos a) = record {
   fits = record { least = omega (arith, ints); most = omega (arith, ints) };
@@ -48,6 +50,7 @@ chosen-inside : (q : ℤ) → Signed32 q → Signed32 (q +ℤ pos 1) → (b : Bo
 chosen-inside q low high true = clamped-inside (q +ℤ pos 1) high
 chosen-inside q low high false = clamped-inside q low
 
+-- over the 2 ^ k draws, the floor each time and one more for each that says far
 pub mean : (n k : ℕ) (x : ℤ) → 1 ≤ k → k ≤ 32 → Mean n k x
 mean n k x least most low high =
     let q : ℤ = floor x (2 ^ n) in
@@ -63,6 +66,7 @@ closest n k x some =
     let d : 2 ^ n ≡ 2 * 2 ^ (n - 1) = halved n some in
     record { whole = d; low = omega (arith, ints, e .whole); high = omega (arith, ints, e .whole, e .rest) }
 
+-- all laws of one rounding
 pub unit-laws : (n k : ℕ) (x : ℤ) → 1 ≤ n → 1 ≤ k → k ≤ 32 → Unit-laws n k x
 unit-laws n k x some least most = record {
   division = divides x (2 ^ n) (pow-pos n);

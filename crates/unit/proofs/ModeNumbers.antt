@@ -5,6 +5,7 @@ use Rattle.unit.specs.declared.modes.Mode.{Mode}
 use Rattle.unit.specs.declared.modes.Mode.the-variants.{Down, Nearest, Stochastic}
 use Rattle.unit.specs.Modes.{mode-number}
 
+-- modes of one number are one mode
 pub same-mode : (a b : Mode) → mode-number a ≡ mode-number b → a ≡ b
 same-mode Down Down e = refl
 same-mode Down Nearest e = absurd (omega arith)

@@ -8,6 +8,7 @@ use Rattle.draws.specs.DrawBits.{bits-in-range}
 use Rattle.unit.specs.declared.faults.SettingsFault.{SettingsFault}
 use Rattle.unit.specs.declared.faults.SettingsFault.the-variants.{DrawBitsOutOfRange, ShiftOutOfRange, ModeOutOfRange}
 
+-- k, n or the mode is out of range
 abbrev pub settings-refusal : SettingsFault → ℕ
 settings-refusal DrawBitsOutOfRange = 2
 settings-refusal ShiftOutOfRange = 2

@@ -30,6 +30,7 @@ quotient Down n k x d = floor x (2 ^ n)
 quotient Nearest n k x d = floor (x +ℤ pos (2 ^ (n - 1))) (2 ^ n)
 quotient Stochastic n k x d = cond (compares k (far-count n k x) d) (floor x (2 ^ n) +ℤ pos 1) (floor x (2 ^ n))
 
+-- the quotient as a signed 32-bit number
 abbrev pub rounded : Mode → ℕ → ℕ → ℤ → ℕ → ℤ
 rounded mode n k x d = clamped (quotient mode n k x d)
 

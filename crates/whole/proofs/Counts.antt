@@ -17,6 +17,7 @@ count-same (suc n) p q h =
 abbrev pub within : ℕ → ℕ → ℕ → Bool
 within low high d = leb low d && ltb d high
 
+-- as many as the interval has below n
 pub count-within : (n low high : ℕ) → count (within low high) (below n) ≡ min n high - low
 count-within zero low high = omega arith
 count-within (suc n) low high =

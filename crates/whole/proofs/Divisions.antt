@@ -15,13 +15,14 @@ floor-holds (pos a) d h = record { whole = ap pos (sym (div-add-mod' a d)); rest
 floor-holds (negsuc a) d h =
     record { whole = omega (arith, ints, div-add-mod' a d, mod-below a d h, suc-mul (a / d) d); rest = omega arith }
 
--- the quotient and the rest of a number at least 0, and below 0
+-- of a number at least 0 there are no others
 natural-only : (a d r : ℕ) (q : ℤ) → Divided (pos a) d q r → (q ≡ pos (a / d)) × (r ≡ a % d)
 natural-only a d r (pos q) e =
     let whole : q * d + r ≡ a = omega (arith, ints, e .whole) in
     (ap pos (sym (div-mul-add q d r (e .rest)) ∙ ap (λ (m : ℕ). m / d) whole), sym (mod-mul-add q d r (e .rest)) ∙ ap (λ (m : ℕ). m % d) whole)
 natural-only a d r (negsuc q) e = absurd (omega (arith, ints, e .whole, e .rest, suc-mul q d))
 
+-- nor of one below 0
 negative-only : (a d r : ℕ) (q : ℤ) → Divided (negsuc a) d q r → (q ≡ negsuc (a / d)) × (r ≡ (d - 1) - a % d)
 negative-only a d r (pos q) e = absurd (omega (arith, ints, e .whole))
 negative-only a d r (negsuc q) e =
@@ -30,11 +31,12 @@ negative-only a d r (negsuc q) e =
     let low : a % d ≡ (d - 1) - r = ap (λ (m : ℕ). m % d) (sym whole) ∙ mod-mul-add q d ((d - 1) - r) lt in
     (ap negsuc (sym (div-mul-add q d ((d - 1) - r) lt) ∙ ap (λ (m : ℕ). m / d) whole), omega (arith, e .rest))
 
--- and no others are
+-- so no others are a quotient and a rest
 pub floor-only : (x : ℤ) (d : ℕ) (q : ℤ) (r : ℕ) → Divided x d q r → (q ≡ floor x d) × (r ≡ modulo x d)
 floor-only (pos a) d q r e = natural-only a d r q e
 floor-only (negsuc a) d q r e = negative-only a d r q e
 
+-- both together
 pub divides : (x : ℤ) (d : ℕ) → 0 < d → Divides x d
 divides x d h = record { holds = floor-holds x d h; only = floor-only x d }
 
@@ -54,17 +56,18 @@ lacking-mod m d a h lt =
     let split : q * d + ((d - 1) - a % d) ≡ m * d - suc a = omega (arith, div-add-mod' a d, suc-mul (a / d) d) in
     sym (ap (λ (t : ℕ). t % d) split) ∙ mod-mul-add q d ((d - 1) - a % d) (omega arith)
 
--- One more, times d.
+-- one more, times d
 next-times : (q : ℤ) (d : ℕ) → (q +ℤ pos 1) *ℤ pos d ≡ q *ℤ pos d +ℤ pos d
 next-times q d = ap (λ (z : ℤ). z *ℤ pos d) (+ℤ-one q) ∙ sucℤ-*ℤ q (pos d)
 
--- h more than x, divided by 2 * h: the floor stays where the remainder is below h, and else is one more
+-- h more than x, divided by 2 * h: the floor stays where the remainder is below h
 pub floor-stays : (x : ℤ) (h : ℕ) → modulo x (2 * h) < h → floor (x +ℤ pos h) (2 * h) ≡ floor x (2 * h)
 floor-stays x h lt =
     let e = floor-holds x (2 * h) (omega arith) in
     let whole : x +ℤ pos h ≡ floor x (2 * h) *ℤ pos (2 * h) +ℤ pos (modulo x (2 * h) + h) = omega (arith, ints, e .whole) in
     sym (floor-only (x +ℤ pos h) (2 * h) (floor x (2 * h)) (modulo x (2 * h) + h) (record { whole = whole; rest = omega arith }) .0)
 
+-- and is one more where it is not
 pub floor-rises : (x : ℤ) (h : ℕ) → 0 < h → h ≤ modulo x (2 * h) → floor (x +ℤ pos h) (2 * h) ≡ floor x (2 * h) +ℤ pos 1
 floor-rises x h some le =
     let e = floor-holds x (2 * h) (omega arith) in

@@ -26,6 +26,7 @@ sumℤ-passed p q (x ∷ xs) = by-test (p x) (sumℤ-passed p q xs)
     by-test true before = omega (arith, ints, more)
     by-test false before = omega (arith, ints, more)
 
+-- there are n numbers below n
 pub length-below : (n : ℕ) → length (below n) ≡ n
 length-below zero = refl
 length-below (suc n) = ap suc (length-below n)

@@ -4,10 +4,12 @@ use mathlib.Core.List.{List, [], _∷_}
 use Prim.Native.Nat.{ℕ, zero, suc, _+_}
 use lib.IntN.{ℤ, pos, _+ℤ_}
 
+-- f summed over the elements
 abbrev pub sum : {X : Type 0} → (X → ℕ) → List X → ℕ
 sum f [] = 0
 sum f (x ∷ xs) = f x + sum f xs
 
+-- the same for integers
 abbrev pub sumℤ : {X : Type 0} → (X → ℤ) → List X → ℤ
 sumℤ f [] = pos 0
 sumℤ f (x ∷ xs) = f x +ℤ sumℤ f xs
