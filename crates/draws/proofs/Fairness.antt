@@ -7,8 +7,8 @@ use Rattle.whole.specs.Sums.{count}
 use Rattle.whole.proofs.Counts.{within, count-same, count-within}
 use Rattle.draws.specs.Rules.{Says, Fair, compares, carries}
 
--- a rule that says far from `low k R` on, for R draws, is fair
-fair-within : (says : Says) (low : ℕ → ℕ → ℕ) → ((k R : ℕ) → R < 2 ^ k → low k R + R ≤ 2 ^ k) → ((k R d : ℕ) → 1 ≤ k → k ≤ 32 → R < 2 ^ k → d < 2 ^ k → says k R d ≡ within (low k R) (low k R + R) d) → Fair says
+-- A rule that says far from `low k R` on, for R draws, is fair. A rule of another crate can be proved by it too.
+pub fair-within : (says : Says) (low : ℕ → ℕ → ℕ) → ((k R : ℕ) → R < 2 ^ k → low k R + R ≤ 2 ^ k) → ((k R d : ℕ) → 1 ≤ k → k ≤ 32 → R < 2 ^ k → d < 2 ^ k → says k R d ≡ within (low k R) (low k R + R) d) → Fair says
 fair-within says low fits agree k R least most lt =
     let room : low k R + R ≤ 2 ^ k = fits k R lt in
     count-same (2 ^ k) (says k R) (within (low k R) (low k R + R)) (λ d h. agree k R d least most lt h)

@@ -1,9 +1,9 @@
 // Decision rules: whether a rounding goes to the near or the far neighbour.
 ghost use mathlib.Core.Path.{_≡_};
-ghost use Prim.Native.Nat.{ℕ, _^_, _<_};
-ghost use mathlib.Core.Bool.{Bool, true, false};
+ghost use Prim.Native.Nat.{_^_, _<_};
+ghost use mathlib.Core.Bool.{true, false};
 ghost use Rattle.std.specs.declared.option.Option.the-variants.{Some, None};
-ghost use Rattle.draws.specs.Rules.{is-far, in-range, Fair, Near-outside, compares, carries};
+ghost use Rattle.draws.specs.Rules.{Says, is-far, in-range, Fair, Near-outside, compares, carries};
 use crate::draw_bits::DrawBits;
 
 // One of the two numbers around an exact result.
@@ -16,7 +16,7 @@ pub enum Neighbour {
 // A rule by what it says: far or not, for draws of k bits, a count and a draw. Exactly `count` of the 2^k draws say far,
 // and outside the ranges it says near.
 pub trait Rule {
-    ghost says: { Self → ℕ → ℕ → ℕ → Bool };
+    ghost says: { Self → Says };
 
     law fair: { (s : Self) → Fair (says s) };
 
