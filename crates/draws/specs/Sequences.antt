@@ -1,4 +1,5 @@
 -- The words of the two sources. Assumes nothing.
+use mathlib.Core.Path.{_≡_}
 use mathlib.Core.Bool.{true}
 use mathlib.Core.List.{List}
 use Prim.Native.Nat.{ℕ, zero, suc, _+_, _*_, _%_, _^_}
@@ -22,3 +23,7 @@ after state (suc n) = after (stepped state) n
 -- each word is the state after one step more
 abbrev pub generated : ℕ → Stream
 generated state = record { left = λ _. true; word = λ n. after state (suc n) }
+
+-- the first two words from seed 0
+abbrev pub First-words : Type 0
+First-words = (generated 0 .word 0 ≡ 1013904223) × (generated 0 .word 1 ≡ 1196435762)

@@ -1,6 +1,6 @@
 // The source that is a linear congruential generator.
 ghost use mathlib.Core.Path.{_≡_};
-ghost use Rattle.draws.specs.Sequences.{generated};
+ghost use Rattle.draws.specs.Sequences.{generated, First-words};
 use crate::faults::SourceFault;
 use crate::sources::Source;
 
@@ -13,7 +13,8 @@ pub struct Generator {
 impl Generator {
     // The first word is the state one step after the seed.
     pub fn new(seed: u32) -> Generator
-        ensures { λ r. ⌜ r .state ≡ seed ⌝ }
+        ensures state { λ r. ⌜ r .state ≡ seed ⌝ }
+        ensures first { λ _. ⌜ First-words ⌝ }
     {
         Generator { state: seed }
     }
