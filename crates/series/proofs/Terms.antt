@@ -32,13 +32,17 @@ pub series-more : (mode : Mode) (k : ℕ) (word : ℕ → ℕ) (m : ℕ) → ser
 unfolding series
 series-more mode k word m = omega (arith, ints)
 
--- a rounded term is small
-chosen-small : (a : ℕ) (up : Bool) → a ≤ 65536 → (pos 0 ≤ℤ clamped (cond up (floor (pos a) (2 ^ 9) +ℤ pos 1) (floor (pos a) (2 ^ 9)))) × (clamped (cond up (floor (pos a) (2 ^ 9) +ℤ pos 1) (floor (pos a) (2 ^ 9))) ≤ℤ pos 129)
+-- what a rounded term can be
+abbrev Small : ℤ → Type 0
+Small z = (pos 0 ≤ℤ z) × (z ≤ℤ pos 129)
+
+-- the floor or one more
+chosen-small : (a : ℕ) (up : Bool) → a ≤ 65536 → Small (clamped (cond up (floor (pos a) (2 ^ 9) +ℤ pos 1) (floor (pos a) (2 ^ 9))))
 chosen-small a true h = (omega (arith, ints), omega (arith, ints))
 chosen-small a false h = (omega (arith, ints), omega (arith, ints))
 
 -- in every mode
-term-small : (mode : Mode) (k a d : ℕ) → a ≤ 65536 → (pos 0 ≤ℤ rounded mode 9 k (pos a) d) × (rounded mode 9 k (pos a) d ≤ℤ pos 129)
+term-small : (mode : Mode) (k a d : ℕ) → a ≤ 65536 → Small (rounded mode 9 k (pos a) d)
 term-small Down k a d h = (omega (arith, ints), omega (arith, ints))
 term-small Nearest k a d h = (omega (arith, ints), omega (arith, ints))
 term-small Stochastic k a d h = chosen-small a (compares k (far-count 9 k (pos a)) d) h

@@ -31,14 +31,18 @@ abbrev pub Enough : {S : Type 0} → (S → Stream) → Mode → S → Result (U
 Enough coming mode source (Ok _) = mode ≡ Stochastic → coming source .left 999 ≡ true
 Enough coming mode source (Err e) = (mode ≡ Stochastic) × (coming source .left 999 ≡ false) × (source-refusal e ≡ 8)
 
--- the sum of the series, with no refusal
+-- v is the sum of the series, and 999 words are gone where the mode takes words
+abbrev pub Summed-to : {S : Type 0} → (S → Stream) → Mode → ℕ → S → S → ℤ → Type 0
+Summed-to coming mode k before after v = (v ≡ harmonic mode k (coming before .word)) × Leaves coming mode 999 before after
+
+-- the sum, with no refusal
 abbrev pub Sums-surely : {S : Type 0} → (S → Stream) → Mode → ℕ → S → S → Result ℤ SourceFault → Type 0
-Sums-surely coming mode k before after (Ok v) = (v ≡ harmonic mode k (coming before .word)) × Leaves coming mode 999 before after
+Sums-surely coming mode k before after (Ok v) = Summed-to coming mode k before after v
 Sums-surely coming mode k before after (Err e) = ⊥
 
 -- The sum of the series; in the stochastic mode refusal 8 where fewer than 999 words are left, and the source is as before.
 abbrev pub Sums : {S : Type 0} → (S → Stream) → Mode → ℕ → S → S → Result ℤ SourceFault → Type 0
-Sums coming mode k before after (Ok v) = (v ≡ harmonic mode k (coming before .word)) × Leaves coming mode 999 before after
+Sums coming mode k before after (Ok v) = Summed-to coming mode k before after v
 Sums coming mode k before after (Err e) =
     (mode ≡ Stochastic) × (coming before .left 999 ≡ false) × (source-refusal e ≡ 8) × (after ≡ before)
 
