@@ -121,4 +121,12 @@ mod tests {
         )?;
         check_eq(unit.settings(), down)
     }
+
+    #[test]
+    fn a_forgotten_stretch_does_not_end() -> Result<(), Fail> {
+        let stochastic = Settings::new(2, 1, 1)?;
+        let mut unit = RoundingUnit::new(Settings::new(0, 8, 8)?);
+        std::mem::forget(unit.stretch(stochastic));
+        check_eq(unit.settings(), stochastic)
+    }
 }
