@@ -2,6 +2,8 @@
 //
 // `answer` is proved to answer what the meanings of these say: an operation's rounded exact result, a split, the numbers next to a code,
 // the ends of a format, what a rule says, the unit's quotient and the generator's first words, or the number of the refusal.
+#![tactic(auto)]
+
 mod answering;
 mod comparing;
 mod operated;

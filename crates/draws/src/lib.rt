@@ -3,6 +3,8 @@
 // A source gives 32-bit words. A taken `Word` belongs to one rounding: it can be neither copied nor let go,
 // and its one use is `decide`, which asks a rule with the draw bits k, a count and the draw of the word, and
 // answers the near or the far neighbour. A fair rule says far for exactly `count` of the 2^k draws.
+#![tactic(auto)]
+
 mod draw_bits;
 mod faults;
 mod generator;

@@ -2,6 +2,8 @@
 //
 // `Fixed` cannot have other sizes. It is a `Format`: its numbers are the codes below 2^(s+i+p), in two's complement where s is 1, its
 // unit is 2^-p, and near is the lower neighbour. Splits are straight-line integer arithmetic: one product and two divisions at most.
+#![tactic(auto)]
+
 mod division;
 mod exact;
 mod faults;

@@ -1,4 +1,6 @@
 // Prints where the harmonic series ends in s8.7 under two rounding modes.
+#![tactic(auto)]
+
 use draws::WordList;
 use series::harmonic_sum;
 use unit::{Mode, RoundingUnit, Settings};

@@ -2,6 +2,8 @@
 //
 // A line has a question, `->` and the answer that is expected. Its fields stand between spaces, tabs and carriage returns. No byte
 // is out of place: whatever a line holds, `parse_line` answers its vector, that it says nothing, or what of it cannot be read.
+#![tactic(auto)]
+
 mod answer;
 mod answer_fields;
 mod fields;

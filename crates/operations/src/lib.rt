@@ -3,6 +3,8 @@
 // Each takes the exact result, has the format split it into a near code, a far code and a count, and takes one word from a source:
 // its draw decides by a rule which of the two is the result. Proved once for every format, rule and source: over all 2^k
 // draws the values of the results add up to 2^k times the exact result, but for the fraction that the count drops.
+#![tactic(auto)]
+
 mod faults;
 mod performing;
 mod rounding;

@@ -2,6 +2,8 @@
 //
 // `harmonic_sum` adds up 1 + 1/2 + .. + 1/1000, each term rounded by the rounding unit. Its contract gives the answer as a sum
 // over the terms in every mode, and its value rounded down and to nearest.
+#![tactic(auto)]
+
 ghost use Rattle.std.specs.Prelude.{◌≡◌, true};
 ghost use Rattle.unit.specs.declared.modes.Mode.TheVariants.{Stochastic};
 ghost use Rattle.series.specs.Harmonic.{Enough, Sums, SumsSurely, Values};

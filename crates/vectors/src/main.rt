@@ -1,4 +1,6 @@
 // Compares what formats, rules, the rounding unit and the generator answer with vector lines from standard input.
+#![tactic(auto)]
+
 use answers::{Outcome, compare};
 use std::io::{BufRead, BufReader};
 
