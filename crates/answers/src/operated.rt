@@ -44,7 +44,7 @@ fn operated_by<F: Format, R: Rule>(
     rule: &R,
     word: Option<u32>,
 ) -> Result<Answer, AllocError>
-    ensures { IfOk result (λ a. a ≡ operation_answer (says rule.now) (meaning format.now) operation left right k word) }
+    ensures { IfOk result (λ a. a ≡ operation_answer (R.says rule.now) (F.meaning format.now) operation left right k word) }
 {
     let mut source = word_source(heap, word)?;
     Ok(shown(perform(format, operation, left, right, k, rule, &mut source)))
@@ -61,7 +61,7 @@ pub(crate) fn operated<F: Format>(
     rule: RuleName,
     word: Option<u32>,
 ) -> Result<Answer, AllocError>
-    ensures { IfOk result (λ a. a ≡ operation_answer (rule_says rule) (meaning format.now) operation left right k word) }
+    ensures { IfOk result (λ a. a ≡ operation_answer (rule_says rule) (F.meaning format.now) operation left right k word) }
 {
     match rule {
         RuleName::Comparison => operated_by(
@@ -86,7 +86,7 @@ pub(crate) fn split<F: Format>(
     right: u32,
     k: u64,
 ) -> Answer
-    ensures { result ≡ split_answer (meaning format.now) operation left right k }
+    ensures { result ≡ split_answer (F.meaning format.now) operation left right k }
 {
     match format.split(operation, left, right, k) {
         Ok(split) => {
@@ -104,7 +104,7 @@ pub(crate) fn split<F: Format>(
 
 // ABOVE BELOW of a code.
 pub(crate) fn neighbours<F: Format>(format: &F, code: u32) -> Answer
-    ensures { NextAnswer (meaning format.now) code result }
+    ensures { NextAnswer (F.meaning format.now) code result }
 {
     match (format.next_above(code), format.next_below(code)) {
         (Ok(above), Ok(below)) => Answer::Next { above, below },

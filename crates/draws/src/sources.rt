@@ -40,7 +40,7 @@ pub trait Source {
 impl Word {
     // Spends the word: what the rule says of the count and the draw of this word.
     pub fn decide<R: Rule>(self, rule: &R, k: DrawBits, count: u64) -> Neighbour
-        ensures { is_far result ≡ says rule.now k.bits count (draw k.bits self.bits) }
+        ensures { is_far result ≡ R.says rule.now k.bits count (draw k.bits self.bits) }
     {
         let Word { bits } = self;
         let k = k.get();

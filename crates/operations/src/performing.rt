@@ -16,7 +16,7 @@ fn split<F: Format>(
     right: u32,
     k: u64,
 ) -> Result<Split, FormatFault>
-    ensures { SplitsOnce (meaning format.now) operation left right k result }
+    ensures { SplitsOnce (F.meaning format.now) operation left right k result }
 {
     format.split(operation, left, right, k)
 }
@@ -31,7 +31,7 @@ fn performed<F: Format, R: Rule, S: Source>(
     rule: &R,
     source: &mut S,
 ) -> Result<Rounded, OperationFault>
-    ensures { Performs coming (says rule.now) (meaning format.now) operation left right k source.old source.new result }
+    ensures { Performs S.coming (R.says rule.now) (F.meaning format.now) operation left right k source.old source.new result }
 {
     let split = split(format, operation, left, right, k)?;
     let k = DrawBits::new(k)?;
@@ -49,7 +49,7 @@ pub fn perform<F: Format, R: Rule, S: Source>(
     rule: &R,
     source: &mut S,
 ) -> Result<Rounded, OperationFault>
-    ensures answer { Performs coming (says rule.now) (meaning format.now) operation left right k source.old source.new result }
+    ensures answer { Performs S.coming (R.says rule.now) (F.meaning format.now) operation left right k source.old source.new result }
     ensures laws { OperationLaws }
 {
     performed(format, operation, left, right, k, rule, source)
@@ -64,7 +64,7 @@ pub fn sum<F: Format, R: Rule, S: Source>(
     rule: &R,
     source: &mut S,
 ) -> Result<Rounded, OperationFault>
-    ensures { Performs coming (says rule.now) (meaning format.now) Sum left right k source.old source.new result }
+    ensures { Performs S.coming (R.says rule.now) (F.meaning format.now) Sum left right k source.old source.new result }
 {
     performed(format, Operation::Sum, left, right, k, rule, source)
 }
@@ -78,7 +78,7 @@ pub fn difference<F: Format, R: Rule, S: Source>(
     rule: &R,
     source: &mut S,
 ) -> Result<Rounded, OperationFault>
-    ensures { Performs coming (says rule.now) (meaning format.now) Difference left right k source.old source.new result }
+    ensures { Performs S.coming (R.says rule.now) (F.meaning format.now) Difference left right k source.old source.new result }
 {
     performed(format, Operation::Difference, left, right, k, rule, source)
 }
@@ -92,7 +92,7 @@ pub fn product<F: Format, R: Rule, S: Source>(
     rule: &R,
     source: &mut S,
 ) -> Result<Rounded, OperationFault>
-    ensures { Performs coming (says rule.now) (meaning format.now) Product left right k source.old source.new result }
+    ensures { Performs S.coming (R.says rule.now) (F.meaning format.now) Product left right k source.old source.new result }
 {
     performed(format, Operation::Product, left, right, k, rule, source)
 }
@@ -106,7 +106,7 @@ pub fn quotient<F: Format, R: Rule, S: Source>(
     rule: &R,
     source: &mut S,
 ) -> Result<Rounded, OperationFault>
-    ensures { Performs coming (says rule.now) (meaning format.now) Quotient left right k source.old source.new result }
+    ensures { Performs S.coming (R.says rule.now) (F.meaning format.now) Quotient left right k source.old source.new result }
 {
     performed(format, Operation::Quotient, left, right, k, rule, source)
 }

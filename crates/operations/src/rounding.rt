@@ -18,7 +18,7 @@ pub fn round<R: Rule, S: Source>(
     rule: &R,
     source: &mut S,
 ) -> Result<Rounded, SourceFault>
-    ensures { Rounds coming (says rule.now) k.bits split source.old source.new result }
+    ensures { Rounds S.coming (R.says rule.now) k.bits split source.old source.new result }
 {
     let (near, far, count) = split.parts;
     let code = match source.take()?.decide(rule, k, count) {

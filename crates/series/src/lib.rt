@@ -13,7 +13,7 @@ use unit::{Mode, RoundingUnit, Settings, Stretch};
 
 // Refuses where the mode takes words and fewer than 999 are left.
 fn check_words<S: Source>(mode: Mode, source: &S) -> Result<(), SourceFault>
-    ensures { Enough coming mode source.now result }
+    ensures { Enough S.coming mode source.now result }
 {
     match mode {
         Mode::Stochastic if !source.has(999) => Err(SourceFault::Exhausted),
@@ -23,8 +23,8 @@ fn check_words<S: Source>(mode: Mode, source: &S) -> Result<(), SourceFault>
 
 // 1 and the rounded terms 1/2 to 1/1000.
 fn rounded_terms<S: Source>(stretch: &Stretch<'_>, source: &mut S) -> Result<i32, SourceFault>
-    requires { (stretch.now.unit.now.settings.n ≡ 9) × ((stretch.now.unit.now.settings.mode ≡ Stochastic → (coming source.old).left 999 ≡ true)) }
-    ensures { SumsSurely coming stretch.now.unit.now.settings.mode stretch.now.unit.now.settings.k.bits source.old source.new result }
+    requires { (stretch.now.unit.now.settings.n ≡ 9) × ((stretch.now.unit.now.settings.mode ≡ Stochastic → (S.coming source.old).left 999 ≡ true)) }
+    ensures { SumsSurely S.coming stretch.now.unit.now.settings.mode stretch.now.unit.now.settings.k.bits source.old source.new result }
 {
     let mut sum = 128;
     for i in 2..1001u32 {
@@ -39,7 +39,7 @@ pub fn harmonic_sum<S: Source>(
     mode: Mode,
     source: &mut S,
 ) -> Result<i32, SourceFault>
-    ensures answer { Sums coming mode unit.old.settings.k.bits source.old source.new result }
+    ensures answer { Sums S.coming mode unit.old.settings.k.bits source.old source.new result }
     ensures restored { unit.new.settings ≡ unit.old.settings }
     ensures values { Values }
 {

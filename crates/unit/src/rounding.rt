@@ -16,7 +16,7 @@ fn drawn_quotient<S: Source>(
     source: &mut S,
 ) -> Result<i64, SourceFault>
     requires { (1 ≤ n) × (n ≤ 32) }
-    ensures { DrawsQuotient coming n k.bits x source.old source.new result }
+    ensures { DrawsQuotient S.coming n k.bits x source.old source.new result }
 {
     let (floor, rest) = divided(x, n);
     let count = far_count(rest, n, k);
@@ -28,7 +28,7 @@ fn drawn_quotient<S: Source>(
 
 // x / 2^n under these settings.
 fn rounded<S: Source>(settings: Settings, x: i64, source: &mut S) -> Result<i32, SourceFault>
-    ensures { Rounds coming settings x source.old source.new result }
+    ensures { Rounds S.coming settings x source.old source.new result }
 {
     let n = settings.shift();
     let k = settings.draw_bits();
@@ -70,7 +70,7 @@ impl RoundingUnit {
 
     // x / 2^n as a signed 32-bit number. The stochastic mode takes a word, and refuses where none is left.
     pub fn round<S: Source>(&self, x: i64, source: &mut S) -> Result<i32, SourceFault>
-        ensures answer { Rounds coming self.now.settings x source.old source.new result }
+        ensures answer { Rounds S.coming self.now.settings x source.old source.new result }
         ensures settings { self.now.settings ≡ self.now.settings }
         ensures laws { UnitLaws self.now.settings.n self.now.settings.k.bits x }
     {

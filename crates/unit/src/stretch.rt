@@ -15,7 +15,7 @@ pub struct Stretch<'a> {
 impl Stretch<'_> {
     // As `RoundingUnit::round`, under the settings of the stretch.
     pub fn round<S: Source>(&self, x: i64, source: &mut S) -> Result<i32, SourceFault>
-        ensures answer { Rounds coming self.now.unit.now.settings x source.old source.new result }
+        ensures answer { Rounds S.coming self.now.unit.now.settings x source.old source.new result }
     {
         self.unit.round(x, source)
     }
@@ -52,7 +52,7 @@ impl RoundingUnit {
         x: i64,
         source: &mut S,
     ) -> Result<i32, SourceFault>
-        ensures answer { Rounds coming settings x source.old source.new result }
+        ensures answer { Rounds S.coming settings x source.old source.new result }
         ensures restored { self.new.settings ≡ self.old.settings }
     {
         let stretch = self.stretch(settings);
