@@ -10,7 +10,7 @@ pub returns : goal.returns
 returns c =
     let x = c.args.x in
     let n = c.args.n in
-    let bits = c.cast-unsigned.ensures ∙ ap (of_z w64) (to_z-of_z w64 x c.ranges.x) in
+    let bits = c.cast_unsigned.ensures ∙ ap (of_z w64) (to_z-of_z w64 x c.ranges.x) in
     let down = shifted x (2 ^ n) c.ranges.x in
     let over = ap₂ (λ (a b : ℕ). bit_and a (b - 1)) bits (one_shl n 64 (omega (arith, c.requires.1))) ∙ low_bits x n c.requires.1 c.ranges.x in
     record {
