@@ -21,7 +21,7 @@ returns-in-err-number c =
 
 pub loop-byte-preserved : goal.loop-byte-preserved
 loop-byte-preserved c =
-    let made = c.in-ok-number.ensures in (
+    let made = c.in_ok-number.ensures in (
       subst (λ n. Left c.args.base c.args.most n c.args.text.now (c.loop-byte.byte-index + 1)) (sym (made.0 ∙ ap (λ d. c.loop-byte.number * c.args.base + d) c.digit-digit.ensures))
           (goes_on _ _ _ _ _ c.loop-byte.invariant.0 c.loop-byte-test.true (subst (λ d. d < c.args.base) c.digit-digit.ensures c.if-digit-base.false)),
       made.1,
@@ -30,7 +30,7 @@ loop-byte-preserved c =
 pub returns : goal.returns
 returns c =
     record {
-      value = ends _ _ _ _ _ c.loop-byte.invariant.0 (omega (arith, false-eqb _ 0 c.if-is-empty.ensures)) c.loop-byte-test.false c.loop-byte.invariant.1;
+      value = ends _ _ _ _ _ c.loop-byte.invariant.0 (omega (arith, false-eqb _ 0 c.if-is_empty.ensures)) c.loop-byte-test.false c.loop-byte.invariant.1;
       bound = c.loop-byte.invariant.1;
     }
 

@@ -10,7 +10,7 @@ returns-then-not-goes-on c =
 
 pub loop-i-preserved : goal.loop-i-preserved
 loop-i-preserved c =
-    let goes = prefix_len-drop_yes (in_run c.args.run) c.args.text.now c.loop-i.i 0 c.loop-i-test.true (sym c.if-not-goes-on.ensures) in
+    let goes = prefix_len-drop_yes (in_run c.args.run) c.args.text.now c.loop-i.i 0 c.loop-i-test.true (sym c.if-not-goes_on.ensures) in
     omega (arith, c.loop-i.invariant)
 
 pub returns : goal.returns

@@ -6,6 +6,6 @@ pub returns : goal.returns
 returns c =
     let f = c.args.self.now in
     record {
-      answer = answers_above f.sign f.integer f.fraction c.args.code (sym c.if-not-is-number.ensures.answer) c.above.result c.above.ensures;
+      answer = answers_above f.sign f.integer f.fraction c.args.code (sym c.if-not-is_number.ensures.answer) c.above.result c.above.ensures;
       unchanged = search rules;
     }

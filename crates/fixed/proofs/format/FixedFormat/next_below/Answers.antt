@@ -6,6 +6,6 @@ pub returns : goal.returns
 returns c =
     let f = c.args.self.now in
     record {
-      answer = answers_below f.sign f.integer f.fraction c.args.code (sym c.if-not-is-number.ensures.answer) c.below.result c.below.ensures;
+      answer = answers_below f.sign f.integer f.fraction c.args.code (sym c.if-not-is_number.ensures.answer) c.below.result c.below.ensures;
       unchanged = search rules;
     }

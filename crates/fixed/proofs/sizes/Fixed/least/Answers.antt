@@ -9,7 +9,7 @@ use Rattle.fixed.proofs.sizes.Fixed.least.Goals as goal
 pub returns : goal.returns
 returns c =
     let f = c.args.self in
-    let v : ℤ = c.least-value.result in
+    let v : ℤ = c.least_value.result in
     let fits : SFits w128 v = search rules in
-    is_least f.sign f.integer f.fraction v c.least-value.ensures.inside (omega (arith, ints)) c.code.result
+    is_least f.sign f.integer f.fraction v c.least_value.ensures.inside (omega (arith, ints)) c.code.result
     (read_back w128 (fixed f.sign f.integer f.fraction).result v fits c.code.ensures)
