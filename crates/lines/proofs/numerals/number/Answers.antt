@@ -9,10 +9,10 @@ returns-then-digit-base c =
       bound = tt;
     }
 
-pub returns-in-err-number : goal.returns-in-err-number
-returns-in-err-number c =
-    let large : c.args.most < c.loop-byte.number * c.args.base + c.digit-digit.result = c.in-err-number.ensures in
-    rw c.from-residual.ensures (record {
+pub returns-in_err-number : goal.returns-in_err-number
+returns-in_err-number c =
+    let large : c.args.most < c.loop-byte.number * c.args.base + c.digit-digit.result = c.in_err-number.ensures in
+    rw c.from_residual.ensures (record {
       value =
           ends_too_large _ _ _ _ _ c.loop-byte.invariant.0 c.loop-byte-test.true (subst (λ d. d < c.args.base) c.digit-digit.ensures c.if-digit-base.false)
           (subst (λ d. c.args.most < c.loop-byte.number * c.args.base + d) c.digit-digit.ensures large);
@@ -34,5 +34,5 @@ returns c =
       bound = c.loop-byte.invariant.1;
     }
 
-pub returns-then-is-empty : goal.returns-then-is-empty
-returns-then-is-empty c = record { value = empty _ _ _ (true-eqb _ 0 c.if-is-empty.ensures); bound = tt }
+pub returns-then-is_empty : goal.returns-then-is_empty
+returns-then-is_empty c = record { value = empty _ _ _ (true-eqb _ 0 c.if-is_empty.ensures); bound = tt }

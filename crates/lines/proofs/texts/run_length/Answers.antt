@@ -3,9 +3,9 @@ use Rattle.std.proofs.lemmas.List.Sums.{prefix_len-drop_yes, prefix_len-drop_no,
 use Rattle.lines.specs.Texts.{in_run}
 use Rattle.lines.proofs.texts.run_length.Goals as goal
 
-pub returns-then-not-goes-on : goal.returns-then-not-goes-on
-returns-then-not-goes-on c =
-    let stops = prefix_len-drop_no (in_run c.args.run) c.args.text.now c.loop-i.i 0 c.loop-i-test.true (sym c.if-not-goes-on.ensures) in
+pub returns-then-not-goes_on : goal.returns-then-not-goes_on
+returns-then-not-goes_on c =
+    let stops = prefix_len-drop_no (in_run c.args.run) c.args.text.now c.loop-i.i 0 c.loop-i-test.true (sym c.if-not-goes_on.ensures) in
     record { value = omega (arith, c.loop-i.invariant); bound = omega arith }
 
 pub loop-i-preserved : goal.loop-i-preserved
