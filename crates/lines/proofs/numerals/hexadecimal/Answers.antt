@@ -2,8 +2,8 @@ use Rattle.std.proofs.Common.{arith}
 use Rattle.std.proofs.lemmas.List.{take_rest}
 use Rattle.lines.proofs.numerals.hexadecimal.Goals as goal
 
-pub returns-in-err-n : goal.returns-in-err-n
-returns-in-err-n c = grind (arith, c.in-err-n.ensures, take_rest c.args.text.now 2)
+pub returns-in_err-n-in-48 : goal.returns-in_err-n-in-48
+returns-in_err-n-in-48 c = grind (arith, c.in_err-n-in-48.ensures, take_rest c.args.text.now 2)
 
-pub returns-in-ok-n : goal.returns-in-ok-n
-returns-in-ok-n c = grind (arith, c.in-ok-n.ensures, take_rest c.args.text.now 2)
+pub returns-in_ok-n-in-48 : goal.returns-in_ok-n-in-48
+returns-in_ok-n-in-48 c = grind (arith, c.in_ok-n-in-48.ensures, take_rest c.args.text.now 2)
