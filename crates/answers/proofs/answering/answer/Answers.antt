@@ -5,10 +5,10 @@ use Rattle.answers.specs.Answers.{Answers, EndsAnswer}
 use Rattle.answers.proofs.Shown.{in_format}
 use Rattle.answers.proofs.answering.answer.Goals as goal
 
-pub returns-in-ok-operated : goal.returns-in-ok-operated
-returns-in-ok-operated c =
-    subst (λ (q : Query). Answers q c.in-ok-operated.field-0) (sym c.in-Operate.is)
-    (in_format c.in-Operate.format c.in-Ok.format c.in-Ok.ensures _ c.in-ok-operated.field-0 c.in-ok-operated.ensures)
+pub returns-in_ok-operated-in-Ok : goal.returns-in_ok-operated-in-Ok
+returns-in_ok-operated-in-Ok c =
+    subst (λ (q : Query). Answers q c.in_ok-operated-in-Ok.field-0) (sym c.in-Operate.is)
+    (in_format c.in-Operate.format c.in-Ok.format c.in-Ok.ensures _ c.in_ok-operated-in-Ok.field-0 c.in_ok-operated-in-Ok.ensures)
 
 pub returns-in-Ok-named : goal.returns-in-Ok-named
 returns-in-Ok-named c =

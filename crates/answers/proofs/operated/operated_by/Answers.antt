@@ -7,4 +7,4 @@ pub returns : goal.returns
 returns g c =
     c.shown.ensures
     ∙ operation_shown (λ s. listed (vec_items s.words) s.at) (g.R.Rule.says c.args.rule.now) (g.F.Format.meaning c.args.format.now) c.args.operation c.args.left c.args.right c.args.k c.args.word
-    c.in-ok-source.source c.perform.new.source c.perform.result c.in-ok-source.ensures c.perform.ensures.answer
+    c.in_ok-source.source c.perform.new.source c.perform.result c.in_ok-source.ensures c.perform.ensures.answer

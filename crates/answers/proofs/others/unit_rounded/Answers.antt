@@ -16,6 +16,6 @@ returns c =
     let mode = same_mode c.in-Ok.settings.mode c.args.mode (made.1 ∙ c.number.ensures) in
     let passed = to_z w64 (of_z w64 c.args.x) in
     let shown = quotient_shown (λ s. listed (vec_items s.words) s.at) c.new-2.result.settings c.args.n c.args.k passed c.args.word (ap (λ (s : Settings). s.n) held ∙ made.2) (ap (λ (s : Settings). s.k.bits) held ∙ made.3)
-    c.in-ok-source.source c.round.new.source c.in-ok-source.ensures c.args.mode (ap (λ (s : Settings). s.mode) held ∙ mode) c.round.result c.round.ensures.answer in
+    c.in_ok-source.source c.round.new.source c.in_ok-source.ensures c.args.mode (ap (λ (s : Settings). s.mode) held ∙ mode) c.round.result c.round.ensures.answer in
     c.shown_quotient.ensures ∙ shown ∙ ap (λ (z : ℤ). unit_answer c.args.mode c.args.n c.args.k z c.args.word) (to_z-of_z w64 c.args.x c.ranges.x)
     ∙ ap (λ (o : Option SettingsFault). settings_answer o (unit_answer c.args.mode c.args.n c.args.k c.args.x c.args.word)) (sym (sym (ap (λ (j : ℕ). settings_fault j c.args.n c.args.k) c.number.ensures) ∙ made.0))
