@@ -71,7 +71,7 @@ impl RoundingUnit {
     // x / 2^n as a signed 32-bit number. The stochastic mode takes a word, and refuses where none is left.
     pub fn round<S: Source>(&self, x: i64, source: &mut S) -> Result<i32, SourceFault>
         ensures answer { Rounds S.coming self.now.settings x source.old source.new result }
-        ensures settings { self.now.settings ≡ self.now.settings }
+        ensures settings { self.exit.now.settings ≡ self.entry.now.settings }
         ensures laws { UnitLaws self.now.settings.n self.now.settings.k.bits x }
     {
         rounded(self.settings, x, source)
