@@ -14,17 +14,17 @@ pub trait Format {
     // Whether a code is a number.
     fn is_number(&self, code: u32) -> bool
         ensures answer { result ≡ (meaning self.now).number code }
-        ensures unchanged { self.now ≡ self.now };
+        ensures unchanged { self.exit.now ≡ self.entry.now };
 
     // The next number above a number, by its result code; absent where no number is larger.
     fn next_above(&self, code: u32) -> Result<Option<u32>, FormatFault>
         ensures answer { AnswersAbove (meaning self.now) code result }
-        ensures unchanged { self.now ≡ self.now };
+        ensures unchanged { self.exit.now ≡ self.entry.now };
 
     // The next number below a number; absent where no number is smaller.
     fn next_below(&self, code: u32) -> Result<Option<u32>, FormatFault>
         ensures answer { AnswersBelow (meaning self.now) code result }
-        ensures unchanged { self.now ≡ self.now };
+        ensures unchanged { self.exit.now ≡ self.entry.now };
 
     // The split of the exact result of an operation, for draws of k bits. Refuses a bad k, then a left code and then a right code
     // that is no number, then a divisor of value 0.
@@ -36,7 +36,7 @@ pub trait Format {
         k: u64,
     ) -> Result<Split, FormatFault>
         ensures answer { AnswersSplit (meaning self.now) operation left right k result }
-        ensures unchanged { self.now ≡ self.now };
+        ensures unchanged { self.exit.now ≡ self.entry.now };
 
     ghost lawful: { (s : Self) → Lawful (meaning s) };
 }
