@@ -1,5 +1,5 @@
 -- What becomes of a line. Assumes nothing.
-use Rattle.std.specs.Prelude.{◌≡◌, ℕ, List, Some, None, Ok, Err, ◌≢◌}
+use Rattle.std.specs.Prelude.{ℕ, List, Some, None, Ok, Err, ◌≢◌}
 use Rattle.lines.specs.declared.vector.Vector.{Vector}
 use Rattle.lines.specs.Lines.{LineSays}
 use Rattle.answers.specs.declared.comparing.Outcome.{Outcome}

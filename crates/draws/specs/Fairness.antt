@@ -2,7 +2,6 @@
 use Rattle.std.specs.Prelude.{◌≡◌, ℕ, ◌+◌, ◌-◌, ◌^◌, ◌<◌, ◌≤◌}
 use Rattle.std.proofs.Common.{◌∙◌, arith}
 use Rattle.std.proofs.lemmas.Bool.Decides.{nat_tests}
-use Rattle.whole.specs.Sums.{count}
 use Rattle.whole.proofs.Counts.{within, count_same, count-within}
 use Rattle.draws.specs.Rules.{Says, Fair, compares, carries}
 

@@ -1,10 +1,10 @@
 -- The laws of the unit hold. Assumes nothing.
-use Rattle.std.proofs.Common.{◌≡◌, ℕ, suc, ◌+◌, ◌-◌, ◌*◌, ◌^◌, ◌<◌, ◌≤◌, Bool, true, false, cond, ℤ, pos, negsuc, ◌+ℤ◌, ◌*ℤ◌, ◌∙◌, ap₂, arith}
+use Rattle.std.proofs.Common.{◌≡◌, ℕ, ◌-◌, ◌*◌, ◌^◌, ◌<◌, ◌≤◌, Bool, true, false, cond, ℤ, pos, negsuc, ◌+ℤ◌, ◌*ℤ◌, ◌∙◌, ap₂, arith}
 use native.Mathlib.Nat.{mul-lt-mul_of_pos_left}
 use Rattle.std.proofs.lemmas.Int.{ints}
 use Rattle.std.proofs.lemmas.Nat.{pow_pos, div_below}
 use Rattle.whole.specs.Division.{floor, modulo}
-use Rattle.whole.specs.Sums.{sum_ℤ, count, below}
+use Rattle.whole.specs.Sums.{below}
 use Rattle.whole.proofs.Divisions.{divides, floor_holds}
 use Rattle.whole.proofs.Sums.{sum_ℤ_same, sum_ℤ_passed, length-below}
 use Rattle.draws.specs.Rules.{compares}
