@@ -4,8 +4,8 @@
 usage: python3 tools/spell_names.py    at the top of the repository, once
 
 A fact (a type) is upper camel case, every other name snake case. A dash stays where it joins two names of an identity,
-as in `mul-add`. Names of src/, strings, inputs and outputs are left alone. The script prints each name it turns, and stops
-before it writes anything where two names of one crate would fall together.
+as in `mul-add`. In src/ only clauses and their imports are turned; strings, inputs and outputs are left alone. The script
+prints each name it turns, and stops before it writes anything where two names of one crate would fall together.
 """
 import glob
 import re

@@ -22,26 +22,26 @@ s8_7_lawful : Lawful (fixed 1 8 7)
 s8_7_lawful = lawful (2 ^ 16) (2 ^ 15) 7 (some_codes 8 7) (most_codes 1 8 7) (lit≤ tt)
 
 -- a split of x at k = 8 is the split of x
-the-split : (x : Exact) (s : Split) → Splits (fixed 1 8 7) 8 x s → split_of (fixed 1 8 7) 8 x ≡ s
-the-split x s h = sym ((determined.one (fixed 1 8 7) s8_7_lawful 8 x).only s h)
+the_split : (x : Exact) (s : Split) → Splits (fixed 1 8 7) 8 x s → split_of (fixed 1 8 7) 8 x ≡ s
+the_split x s h = sym ((determined.one (fixed 1 8 7) s8_7_lawful 8 x).only s h)
 
 -- x between the number of q units and the next, r / d units above the first
 module _ (x : Exact) (q : ℤ) (r : ℕ) (parts : Divided x.numerator x.denominator q r) where
   lies_between : negsuc 32767 ≤ℤ q → (q +ℤ pos 1) <ℤ pos 32768 → 0 < r →
       split_of (fixed 1 8 7) 8 x ≡ record { parts = (code_of 65536 q, code_of 65536 (q +ℤ pos 1), 256 * r / x.denominator); clamped = false }
   lies_between low high some =
-      the-split x _
+      the_split x _
       (placed_between x q r parts 1 8 7 8 (record { low = low; high = omega (arith, ints) }) (record { low = omega (arith, ints); high = high }) some (code_of 65536 q) (code_of 65536 (q +ℤ pos 1)) (256 * r / x.denominator) refl refl refl)
 
   -- x above the greatest number, and x below the least
   lies_above : pos 32767 <ℤ q → split_of (fixed 1 8 7) 8 x ≡ record { parts = (0x7FFF, 0x7FFF, 0); clamped = true }
   lies_above more =
-      the-split x _
+      the_split x _
       (placed_above x q r parts 1 8 7 8 (pos 32767) (record { low = omega (arith, ints); high = omega (arith, ints) }) (omega (arith, ints)) more 0x7FFF refl)
 
   lies_under : q <ℤ negsuc 32767 → split_of (fixed 1 8 7) 8 x ≡ record { parts = (0x8000, 0x8000, 0); clamped = true }
   lies_under less =
-      the-split x _
+      the_split x _
       (placed_under x q r parts 1 8 7 8 (negsuc 32767) (record { low = omega (arith, ints); high = omega (arith, ints) }) (omega (arith, ints)) less 0x8000 refl)
 
 -- 129 * 129 is 130 * 128 and 1

@@ -13,7 +13,6 @@ mod sizes;
 mod values;
 
 pub use faults::SizesFault;
-use formats::Format;
 pub use sizes::Fixed;
 
 // Examples: sizes at both ends of their range, the corners of 2 and 32 bits, and the order of refusals.

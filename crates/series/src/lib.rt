@@ -23,7 +23,7 @@ fn check_words<S: Source>(mode: Mode, source: &S) -> Result<(), SourceFault>
 
 // 1 and the rounded terms 1/2 to 1/1000.
 fn rounded_terms<S: Source>(stretch: &Stretch<'_>, source: &mut S) -> Result<i32, SourceFault>
-    requires { (stretch.now.unit.now.settings.n ≡ 9) × ((stretch.now.unit.now.settings.mode ≡ Stochastic → (S.coming source.old).left 999 ≡ true)) }
+    requires { (stretch.now.unit.now.settings.n ≡ 9) × (stretch.now.unit.now.settings.mode ≡ Stochastic → (S.coming source.old).left 999 ≡ true) }
     ensures { SumsSurely S.coming stretch.now.unit.now.settings.mode stretch.now.unit.now.settings.k.bits source.old source.new result }
 {
     let mut sum = 128;
