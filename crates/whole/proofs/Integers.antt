@@ -5,17 +5,6 @@ use lib.IntN.{+ℤ_idr, +ℤ_assoc, +ℤ-suc_ℤ, suc_ℤ-*ℤ, *ℤ_comm, zero-
 use lib.Signed.{clash_ℤ}
 use Rattle.std.proofs.lemmas.Int.{ints, by_lt_z}
 
--- the size of -n
-abs-neg-pos : (n : ℕ) → nat_abs (neg_ℤ (pos n)) ≡ n
-abs-neg-pos n = omega (arith, ints)
-
--- the size of a product
-pub abs-mul : (a b : ℤ) → nat_abs (a *ℤ b) ≡ nat_abs a * nat_abs b
-abs-mul (pos a) (pos b) = refl
-abs-mul (pos a) (negsuc b) = abs-neg-pos (a * suc b)
-abs-mul (negsuc a) (pos b) = abs-neg-pos (suc a * b)
-abs-mul (negsuc a) (negsuc b) = refl
-
 -- a sum times c, for a second summand that is not below 0
 add-mul-pos : (a c : ℤ) (n : ℕ) → (a +ℤ pos n) *ℤ c ≡ a *ℤ c +ℤ pos n *ℤ c
 add-mul-pos a c zero = ap (λ (x : ℤ). x *ℤ c) (+ℤ_idr a) ∙ sym (ap (λ (x : ℤ). a *ℤ c +ℤ x) (zero-*ℤ c) ∙ +ℤ_idr (a *ℤ c))
