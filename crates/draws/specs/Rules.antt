@@ -1,5 +1,5 @@
 -- Decision rules: does a draw say far? Assumes nothing.
-use Rattle.std.specs.Prelude.{◌≡◌, ℕ, ◌+◌, ◌^◌, ◌<◌, ◌≤◌, Bool, true, false, ◌&&◌, nat_le, nat_lt}
+use Rattle.std.specs.Prelude.{◌≡◌, ℕ, ◌+◌, ◌^◌, ◌<◌, ◌≤◌, Bool, true, false, ◌&&◌, List, codes, nat_le, nat_lt}
 use Rattle.whole.specs.Sums.{count, below}
 use Rattle.draws.specs.DrawBits.{bits_in_range}
 use Rattle.draws.specs.declared.rules.Neighbour.{Neighbour}
@@ -9,6 +9,11 @@ use Rattle.draws.specs.declared.rules.Neighbour.TheVariants.{Near, Far}
 abbrev pub is_far : Neighbour → Bool
 is_far Near = false
 is_far Far = true
+
+-- as it is printed
+abbrev pub neighbour_name : Neighbour → List ℕ
+neighbour_name Near = codes "near"
+neighbour_name Far = codes "far"
 
 -- whether a rule says far, for draws of k bits, a count and a draw
 abbrev pub Says : Type 0

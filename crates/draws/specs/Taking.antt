@@ -1,6 +1,6 @@
 -- What taking a word answers. Assumes nothing.
 use Rattle.std.specs.Prelude.{◌≡◌, ℕ, true, false, Ok, Err, Result}
-use Rattle.draws.specs.declared.faults.SourceFault.{SourceFault}
+use Rattle.draws.specs.declared.sources.SourceFault.{SourceFault}
 use Rattle.draws.specs.Refusals.{source_refusal}
 use Rattle.draws.specs.Streams.{Stream, rest}
 

@@ -1,24 +1,32 @@
-// The source that is a linear congruential generator.
+//! The source that is a linear congruential generator.
 ghost use Rattle.std.specs.Prelude.{◌≡◌};
-ghost use Rattle.draws.specs.Sequences.{generated, FirstWords};
+ghost use Rattle.draws.specs.Sequences.{stepped, generated, FirstWords};
 ghost use Rattle.draws.specs.Lists.{generated_listed};
 
-use crate::faults::SourceFault;
-use crate::sources::Source;
+use crate::sources::{Source, SourceFault};
 
-// Each word is the state after one step; it never runs out.
+/// Each word is the state after one step; it never runs out.
 #[derive(Drop)]
 pub struct Generator {
     state: u32,
 }
 
 impl Generator {
-    // The first word is the state one step after the seed.
+    /// The first word is the state one step after the seed.
     pub fn new(seed: u32) -> Generator
         ensures state { result.state ≡ seed }
         ensures first { FirstWords }
     {
         Generator { state: seed }
+    }
+
+    /// The next word: there always is one.
+    pub fn next_word(&mut self) -> u32
+        ensures word { result ≡ stepped self.old.state }
+        ensures state { self.new.state ≡ stepped self.old.state }
+    {
+        self.state = self.state.wrapping_mul(1664525).wrapping_add(1013904223);
+        self.state
     }
 }
 
@@ -28,8 +36,7 @@ impl Source for Generator {
     ghost listed = { λ s. generated_listed s.state };
 
     fn advance(&mut self) -> Result<u32, SourceFault> {
-        self.state = self.state.wrapping_mul(1664525).wrapping_add(1013904223);
-        Ok(self.state)
+        Ok(self.next_word())
     }
 
     fn has(&self, _n: u64) -> bool {

@@ -1,25 +1,25 @@
-// Random words, the sources they come from, and the rules that decide by them.
-//
-// A source gives 32-bit words. A taken `Word` belongs to one rounding: it can be neither copied nor let go,
-// and its one use is `decide`, which asks a rule with the draw bits k, a count and the draw of the word, and
-// answers the near or the far neighbour. A fair rule says far for exactly `count` of the 2^k draws.
+//! Random words, the sources they come from, and the rules that decide by them.
+//!
+//! A source gives 32-bit words. A taken `Word` belongs to one rounding: it can be neither copied nor let go,
+//! and its one use is `decide`, which asks a rule with the draw bits k, a count and the draw of the word, and
+//! answers the near or the far neighbour. A fair rule says far for exactly `count` of the 2^k draws.
 #![tactic(auto)]
 
 mod draw_bits;
-mod faults;
 mod generator;
+mod refusal;
 mod rules;
 mod sources;
 mod word_list;
 
-pub use draw_bits::DrawBits;
-pub use faults::{DrawBitsFault, SourceFault};
+pub use draw_bits::{DrawBits, DrawBitsFault};
 pub use generator::Generator;
+pub use refusal::Refusal;
 pub use rules::{Carry, Comparison, Neighbour, Rule};
-pub use sources::{Source, Word};
+pub use sources::{Source, SourceFault, Word};
 pub use word_list::WordList;
 
-// Examples: the first words, the draw of a word, and both rules at their edges.
+/// Examples: the first words, the draw of a word, and both rules at their edges.
 #[cfg(test)]
 mod tests {
     use super::*;
@@ -30,6 +30,7 @@ mod tests {
         let mut source = Generator::new(0);
         assert_eq!(rt; source.advance(), Ok(1013904223));
         assert_eq!(rt; source.advance(), Ok(1196435762));
+        assert_eq!(rt; source.next_word(), 3519870697);
         assert!(rt; source.has(u64::MAX));
     }
 
@@ -46,6 +47,15 @@ mod tests {
     }
 
     #[test]
+    fn a_list_may_be_borrowed(rt: HostRuntime) {
+        let words = [7u32, 9];
+        let mut source = WordList::new(&words);
+        assert_eq!(rt; source.advance(), Ok(7));
+        assert!(rt; source.has(1) && !source.has(2));
+        assert_eq!(rt; words, [7, 9]);
+    }
+
+    #[test]
     fn draw_bits_are_1_to_32(rt: HostRuntime) -> Result<(), Fail> {
         for k in [0, 33, u64::MAX] {
             assert_eq!(rt; DrawBits::new(k), Err(DrawBitsFault::OutOfRange));
@@ -56,7 +66,7 @@ mod tests {
         Ok(())
     }
 
-    // What a rule says of a word.
+    /// What a rule says of a word.
     fn said<R: Rule>(
         rt: &HostRuntime,
         rule: &R,
@@ -80,6 +90,7 @@ mod tests {
         ] {
             assert_eq!(rt; said(&rt, &Comparison, k, count, word)?, comparison);
             assert_eq!(rt; said(&rt, &Carry, k, count, word)?, carry);
+            assert_eq!(rt; said(&rt, &&Carry, k, count, word)?, carry);
         }
         Ok(())
     }

@@ -1,44 +1,46 @@
-// The source that is a handed list.
-ghost use Rattle.std.specs.Prelude.{◌≡◌, ◌≤◌, vec_len};
+//! The source that is a handed list.
+ghost use Rattle.std.specs.Prelude.{◌≡◌, ◌≤◌, length};
 ghost use Rattle.draws.specs.Sequences.{listed};
-ghost use Rattle.std.proofs.Common.{arith};
 ghost use Rattle.draws.specs.Lists.{list_listed};
 
-use crate::faults::SourceFault;
-use crate::sources::Source;
+use crate::sources::{Source, SourceFault};
+use std::convert::AsSlice;
 
-// The words of a list, from its first to its last.
+/// The words of a list that it owns or borrows, from the first to the last. Its place is that of the next word, as in a
+/// `std::io::Cursor`.
 #[derive(Drop)]
-pub struct WordList {
-    words: Vec<u32>,
+pub struct WordList<T: AsSlice<u32> = Vec<u32>> {
+    words: T,
     at: usize,
-    ghost inside: { at ≤ vec_len words },
+    ghost inside: { at ≤ length (T.items words) },
 }
 
-impl WordList {
-    // All words of the list are still to come.
-    pub fn new(words: Vec<u32>) -> WordList
-        ensures { listed result.words.items result.at ≡ listed words.items 0 }
+impl<T: AsSlice<u32>> WordList<T> {
+    /// All words of the list are still to come.
+    pub fn new(words: T) -> WordList<T>
+        ensures { listed (T.items result.words) result.at ≡ listed (T.items words) 0 }
     {
         WordList { words, at: 0 }
     }
 }
 
-impl Source for WordList {
-    ghost coming = { λ s. listed s.words.items s.at };
+impl<T: AsSlice<u32>> Source for WordList<T> {
+    ghost coming = { λ s. listed (T.items s.words) s.at };
 
-    ghost listed = { λ s. list_listed s.words.items s.at (omega (arith, s.inside, s.words.ok.0)) };
+    ghost listed = { λ s. list_listed (T.items s.words) s.at s.inside };
 
     fn advance(&mut self) -> Result<u32, SourceFault> {
-        if self.at >= self.words.len() {
-            return Err(SourceFault::Exhausted);
-        }
-        let word = self.words[self.at];
+        let word = *self
+            .words
+            .as_slice()
+            .get(self.at)
+            .ok_or(SourceFault::Exhausted)?;
         self.at += 1;
         Ok(word)
     }
 
     fn has(&self, n: u64) -> bool {
-        n <= (self.words.len() - self.at) as u64
+        // Rust has no `From<usize>` for `u64`
+        n <= (self.words.as_slice().len() - self.at) as u64
     }
 }
