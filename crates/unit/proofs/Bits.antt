@@ -1,7 +1,7 @@
 -- A shift right of a signed number is its floor, and the bits shifted out are its remainder. Assumes nothing.
 use Rattle.std.proofs.Common.{◌≡◌, ℕ, suc, ◌+◌, ◌-◌, ◌*◌, ◌/◌, ◌%◌, ◌^◌, ◌<◌, ◌≤◌, ℤ, pos, negsuc, ◌<ℤ◌, refl, ap, ◌∙◌, subst, lt_of_le_of_lt, arith, pow_mono, w64, SFits, to_z, of_z}
-use lib.Bits.{bit_and}
-use lib.Signed.{shr_z, mag_shr}
+use Rattle.std.specs.Int.Bits.{bit_and}
+use Rattle.std.specs.Int.Signed.{shr_z, mag_shr}
 use Rattle.std.proofs.lemmas.Nat.{pow_pos, pow-add, mul-le, div_below, and_mask}
 use Rattle.std.proofs.lemmas.Int.{to_z-of_z, ints}
 use Rattle.whole.specs.Division.{floor, modulo}

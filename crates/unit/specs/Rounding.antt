@@ -1,7 +1,7 @@
 -- What the unit answers for x, under each mode. Assumes nothing.
 use Rattle.std.specs.Prelude.{◌≡◌, ℕ, ◌-◌, ◌*◌, ◌/◌, ◌^◌, min, true, false, cond, ℤ, pos, negsuc, ◌+ℤ◌, Ok, Err, Result}
 use Rattle.whole.specs.Division.{floor, modulo}
-use Rattle.draws.specs.declared.faults.SourceFault.{SourceFault}
+use Rattle.draws.specs.declared.sources.SourceFault.{SourceFault}
 use Rattle.draws.specs.DrawBits.{draw}
 use Rattle.draws.specs.Refusals.{source_refusal}
 use Rattle.draws.specs.Rules.{compares}

@@ -1,13 +1,15 @@
-// What is refused here, and by which number.
-ghost use Rattle.std.specs.Prelude.{◌≡◌, Some, codes};
+//! What is refused here, and by which number.
+ghost use Rattle.std.specs.Prelude.{◌≡◌, Some};
+ghost use Rattle.std.proofs.Common.{rules};
+ghost use Rattle.draws.specs.Refusals.{refused_by};
 ghost use Rattle.unit.specs.Refusals.{settings_refusal};
 ghost use Rattle.unit.specs.declared.faults.SettingsFault.TheVariants.{DrawBitsOutOfRange};
 
-use draws::DrawBitsFault;
+use draws::{DrawBitsFault, Refusal};
 use std::error::Error;
 use std::fmt;
 
-// Which of the three settings is out of range.
+/// Which of the three settings is out of range.
 #[derive(Clone, Copy, PartialEq, Eq, Debug)]
 pub enum SettingsFault {
     DrawBitsOutOfRange,
@@ -15,11 +17,12 @@ pub enum SettingsFault {
     ModeOutOfRange,
 }
 
-impl SettingsFault {
-    // The number it is refused by.
-    pub fn number(self) -> u32
-        ensures { result ≡ settings_refusal self }
-    {
+impl Refusal for SettingsFault {
+    ghost refusal = { settings_refusal };
+
+    ghost known = { Prim.search rules };
+
+    fn number(self) -> u32 {
         match self {
             SettingsFault::DrawBitsOutOfRange => 2,
             SettingsFault::ShiftOutOfRange => 2,
@@ -39,10 +42,10 @@ impl From<DrawBitsFault> for SettingsFault {
 }
 
 impl fmt::Display for SettingsFault {
-    ghost output = { λ _. Some (codes "refused by 2") };
+    ghost output = { λ fault. Some (refused_by (settings_refusal fault)) };
 
     fn fmt<W: fmt::Write>(&self, f: &mut fmt::Formatter<W>) -> fmt::Result {
-        f.write_str("refused by 2")
+        write!(f, "refused by {}", self.number())
     }
 }
 

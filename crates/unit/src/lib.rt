@@ -1,9 +1,9 @@
-// The rounding unit: a signed 64-bit number divided by 2^n, rounded down, to nearest or at random, and clamped
-// to signed 32 bits.
-//
-// Its settings (mode, n and k) cannot be out of range. A `Stretch` replaces them for a while, and its end restores
-// the earlier ones. Only the stochastic mode takes a word; its results over all 2^k draws sum to 2^k times the
-// exact quotient, but for the fraction that the count of far draws drops.
+//! The rounding unit: a signed 64-bit number divided by 2^n, rounded down, to nearest or at random, and clamped
+//! to signed 32 bits.
+//!
+//! Its settings (mode, n and k) cannot be out of range. A `Stretch` replaces them for a while, and its end restores
+//! the earlier ones. Only the stochastic mode takes a word; its results over all 2^k draws sum to 2^k times the
+//! exact quotient, but for the fraction that the count of far draws drops.
 #![tactic(auto)]
 
 mod division;
@@ -19,25 +19,17 @@ pub use rounding::RoundingUnit;
 pub use settings::Settings;
 pub use stretch::Stretch;
 
-// Examples: each mode, both clamps, the ends of n and k, refusals, and the end of a stretch.
+/// Examples: each mode, both clamps, the ends of n and k, refusals, and the end of a stretch.
 #[cfg(test)]
 mod tests {
     use super::*;
-    use draws::{SourceFault, WordList};
+    use draws::{Refusal, SourceFault, WordList};
     use std::test::Fail;
 
-    // x rounded by a unit with these settings, from a list of one word.
-    fn rounded(
-        rt: &HostRuntime,
-        mode: Mode,
-        n: u64,
-        k: u64,
-        x: i64,
-        word: u32,
-    ) -> Result<i32, Fail> {
-        let unit = RoundingUnit::new(Settings::new(mode.number(), n, k)?);
-        let mut source = WordList::new(vec![in rt.alloc(); word]?);
-        Ok(unit.round(x, &mut source)?)
+    /// x rounded by a unit with these settings, from a list of one word.
+    fn rounded(mode: Mode, n: u64, k: u64, x: i64, word: u32) -> Result<i32, Fail> {
+        let unit = RoundingUnit::new(Settings::of(mode, n, k)?);
+        Ok(unit.round(x, &mut WordList::new([word]))?)
     }
 
     #[test]
@@ -57,7 +49,7 @@ mod tests {
             (Mode::Down, 1, -4294967297, -2147483648),
             (Mode::Down, 32, i64::MIN, -2147483648),
         ] {
-            assert_eq!(rt; rounded(&rt, mode, n, 8, x, 0)?, answer);
+            assert_eq!(rt; rounded(mode, n, 8, x, 0)?, answer);
         }
         Ok(())
     }
@@ -75,7 +67,7 @@ mod tests {
             (1, 8, 4294967295, 0, 2147483647),
             (1, 8, -4294967299, 0, -2147483648),
         ] {
-            assert_eq!(rt; rounded(&rt, Mode::Stochastic, n, k, x, word)?, answer);
+            assert_eq!(rt; rounded(Mode::Stochastic, n, k, x, word)?, answer);
         }
         Ok(())
     }
@@ -95,11 +87,21 @@ mod tests {
     }
 
     #[test]
+    fn a_mode_has_a_number(rt: HostRuntime) {
+        for (mode, number) in [(Mode::Down, 0), (Mode::Nearest, 1), (Mode::Stochastic, 2)] {
+            assert_eq!(rt; Mode::try_from(number), Ok(mode));
+            assert_eq!(rt; u64::from(mode), number);
+            assert_eq!(rt; Settings::new(number, 8, 8), Settings::of(mode, 8, 8));
+        }
+        assert_eq!(rt; Mode::try_from(3), Err(SettingsFault::ModeOutOfRange));
+    }
+
+    #[test]
     fn a_stretch_ends_on_every_way_out(rt: HostRuntime) -> Result<(), Fail> {
-        let down = Settings::new(0, 8, 8)?;
-        let stochastic = Settings::new(2, 1, 1)?;
+        let down = Settings::of(Mode::Down, 8, 8)?;
+        let stochastic = Settings::of(Mode::Stochastic, 1, 1)?;
         let mut unit = RoundingUnit::new(down);
-        let mut source = WordList::new(vec![in rt.alloc(); 0u32]?);
+        let mut source = WordList::new([0u32]);
         assert_eq!(rt; unit.round_under(stochastic, 1, &mut source), Ok(1));
         assert_eq!(rt; unit.settings(), down);
         assert_eq!(rt;
@@ -112,8 +114,8 @@ mod tests {
 
     #[test]
     fn a_forgotten_stretch_does_not_end(rt: HostRuntime) -> Result<(), Fail> {
-        let stochastic = Settings::new(2, 1, 1)?;
-        let mut unit = RoundingUnit::new(Settings::new(0, 8, 8)?);
+        let stochastic = Settings::of(Mode::Stochastic, 1, 1)?;
+        let mut unit = RoundingUnit::new(Settings::of(Mode::Down, 8, 8)?);
         std::mem::forget(unit.stretch(stochastic));
         assert_eq!(rt; unit.settings(), stochastic);
         Ok(())

@@ -1,10 +1,12 @@
-// The rounding modes.
-ghost use Rattle.std.specs.Prelude.{◌≡◌, ◌<◌, Some, None};
+//! The rounding modes.
+ghost use Rattle.std.specs.Prelude.{◌≡◌, ◌<◌, Some, Ok, Err};
 ghost use Rattle.unit.specs.Modes.{mode_number, mode_name};
+ghost use Rattle.unit.specs.declared.faults.SettingsFault.TheVariants.{ModeOutOfRange};
 
+use crate::faults::SettingsFault;
 use std::fmt;
 
-// How a quotient becomes a whole number: the floor, the nearest, or one of its two neighbours at random.
+/// How a quotient becomes a whole number: the floor, the nearest, or one of its two neighbours at random.
 #[derive(Clone, Copy, PartialEq, Eq, Debug)]
 pub enum Mode {
     Down,
@@ -12,24 +14,28 @@ pub enum Mode {
     Stochastic,
 }
 
-impl Mode {
-    // The mode that has this number, if one has.
-    pub fn from_number(number: u64) -> Option<Mode>
-        ensures { elim result [ Some mode ↦ mode_number mode ≡ number | None ↦ 2 < number ] }
-    {
+/// The mode that has this number, if one has.
+impl TryFrom<u64> for Mode {
+    type Error = SettingsFault;
+
+    ghost try_from_gives = { λ number r. elim r [ Ok mode ↦ mode_number mode ≡ number | Err e ↦ (e ≡ ModeOutOfRange) × (2 < number) ] };
+
+    fn try_from(number: u64) -> Result<Mode, SettingsFault> {
         match number {
-            0 => Some(Mode::Down),
-            1 => Some(Mode::Nearest),
-            2 => Some(Mode::Stochastic),
-            _ => None,
+            0 => Ok(Mode::Down),
+            1 => Ok(Mode::Nearest),
+            2 => Ok(Mode::Stochastic),
+            _ => Err(SettingsFault::ModeOutOfRange),
         }
     }
+}
 
-    // The number of the mode: 0, 1 or 2.
-    pub fn number(self) -> u64
-        ensures { result ≡ mode_number self }
-    {
-        match self {
+/// The number of a mode: 0, 1 or 2.
+impl From<Mode> for u64 {
+    ghost from_gives = { λ mode number. number ≡ mode_number mode };
+
+    fn from(mode: Mode) -> u64 {
+        match mode {
             Mode::Down => 0,
             Mode::Nearest => 1,
             Mode::Stochastic => 2,

@@ -1,13 +1,15 @@
-// The settings of the rounding unit.
-ghost use Rattle.std.specs.Prelude.{◌≡◌, ◌≤◌, Some, None, Ok, Err};
+//! The settings of the rounding unit.
+ghost use Rattle.std.specs.Prelude.{◌≡◌, ◌≤◌, ℕ, true, Some, None, Ok, Err};
 ghost use Rattle.unit.specs.Modes.{mode_number};
-ghost use Rattle.unit.specs.Refusals.{settings_fault, settings_refusal};
+ghost use Rattle.draws.specs.DrawBits.{bits_in_range};
+ghost use Rattle.unit.specs.Refusals.{shift_in_range, settings_fault, settings_refusal};
 
 use crate::faults::SettingsFault;
 use crate::modes::Mode;
 use draws::DrawBits;
 
-// How the unit rounds: its mode, the n of its divisor 2^n, and its number k of draw bits.
+/// How the unit rounds: its mode, the n of its divisor 2^n, and its number k of draw bits. n is a plain number, as it is in the
+/// laws; a type for it would repeat `DrawBits` with another fault.
 #[derive(Clone, Copy, PartialEq, Eq, Debug)]
 pub struct Settings {
     mode: Mode,
@@ -17,33 +19,46 @@ pub struct Settings {
     ghost high: { n ≤ 32 },
 }
 
+/// n and k, where both are 1 to 32. k is looked at first.
+fn checked(n: u64, k: u64) -> Result<(u32, DrawBits), SettingsFault>
+    ensures { elim result [ Ok c ↦ (bits_in_range k ≡ true) × (shift_in_range n ≡ true) × (c.0 ≡ n) × (c.1.bits ≡ k) | Err e ↦ (mode : ℕ) → settings_fault mode n k ≡ Some e ] }
+{
+    let k = DrawBits::new(k)?;
+    match u32::try_from(n) {
+        Ok(n @ 1..=32) => Ok((n, k)),
+        _ => Err(SettingsFault::ShiftOutOfRange),
+    }
+}
+
 impl Settings {
-    // Refuses where k, n or the mode's number is out of range, in every mode.
+    /// Refuses where k or n is out of range, in every mode.
+    pub fn of(mode: Mode, n: u64, k: u64) -> Result<Settings, SettingsFault>
+        ensures { elim result [ Ok s ↦ (settings_fault (mode_number mode) n k ≡ None) × (s.mode ≡ mode) × (s.n ≡ n) × (s.k.bits ≡ k) | Err e ↦ (settings_fault (mode_number mode) n k ≡ Some e) × (settings_refusal e ≡ 2) ] }
+    {
+        let (n, k) = checked(n, k)?;
+        Ok(Settings { mode, n, k })
+    }
+
+    /// The same for a mode by its number, which may be any and is looked at last: refuses one that no mode has.
     pub fn new(mode: u64, n: u64, k: u64) -> Result<Settings, SettingsFault>
         ensures { elim result [ Ok s ↦ (settings_fault mode n k ≡ None) × (mode_number s.mode ≡ mode) × (s.n ≡ n) × (s.k.bits ≡ k) | Err e ↦ (settings_fault mode n k ≡ Some e) × (settings_refusal e ≡ 2) ] }
     {
-        let k = DrawBits::new(k)?;
-        if n < 1 || n > 32 {
-            return Err(SettingsFault::ShiftOutOfRange);
-        }
-        let Some(mode) = Mode::from_number(mode) else {
-            return Err(SettingsFault::ModeOutOfRange);
-        };
+        let (n, k) = checked(n, k)?;
         Ok(Settings {
-            mode,
-            n: n as u32,
+            mode: Mode::try_from(mode)?,
+            n,
             k,
         })
     }
 
-    // The mode.
+    /// The mode.
     pub fn mode(self) -> Mode
         ensures { result ≡ self.mode }
     {
         self.mode
     }
 
-    // n: the unit divides by 2^n.
+    /// n: the unit divides by 2^n.
     pub fn shift(self) -> u32
         ensures value { result ≡ self.n }
         ensures low { 1 ≤ result }
@@ -52,7 +67,7 @@ impl Settings {
         self.n
     }
 
-    // k: a draw has k bits.
+    /// k: a draw has k bits.
     pub fn draw_bits(self) -> DrawBits
         ensures { result ≡ self.k }
     {

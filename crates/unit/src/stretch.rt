@@ -1,4 +1,4 @@
-// A stretch: other settings for a while.
+//! A stretch: other settings for a while.
 ghost use Rattle.std.specs.Prelude.{◌≡◌};
 ghost use Rattle.unit.specs.Rounding.{Rounds};
 
@@ -6,14 +6,14 @@ use crate::rounding::RoundingUnit;
 use crate::settings::Settings;
 use draws::{Source, SourceFault};
 
-// Holds the unit under other settings, and restores the earlier ones when it is dropped.
+/// Holds the unit under other settings, and restores the earlier ones when it is dropped.
 pub struct Stretch<'a> {
     unit: &'a mut RoundingUnit,
     earlier: Settings,
 }
 
 impl Stretch<'_> {
-    // As `RoundingUnit::round`, under the settings of the stretch.
+    /// As `RoundingUnit::round`, under the settings of the stretch.
     pub fn round<S: Source>(&self, x: i64, source: &mut S) -> Result<i32, SourceFault>
         ensures answer { Rounds S.coming self.now.unit.now.settings x source.old source.new result }
     {
@@ -31,7 +31,7 @@ impl Drop for Stretch<'_> {
 }
 
 impl RoundingUnit {
-    // Rounds under other settings until the stretch ends.
+    /// Rounds under other settings until the stretch ends.
     pub fn stretch(&mut self, settings: Settings) -> Stretch<'_>
         ensures earlier { result.earlier ≡ self.old.settings }
         ensures settings { result.unit.now.settings ≡ settings }
@@ -45,7 +45,7 @@ impl RoundingUnit {
         }
     }
 
-    // One rounding under other settings.
+    /// One rounding under other settings.
     pub fn round_under<S: Source>(
         &mut self,
         settings: Settings,
@@ -55,8 +55,6 @@ impl RoundingUnit {
         ensures answer { Rounds S.coming settings x source.old source.new result }
         ensures restored { self.new.settings ≡ self.old.settings }
     {
-        let stretch = self.stretch(settings);
-        let answer = stretch.round(x, source)?;
-        Ok(answer)
+        self.stretch(settings).round(x, source)
     }
 }
