@@ -1,8 +1,8 @@
 -- One term of the series after another. Assumes nothing.
-use Rattle.std.proofs.Common.{◌≡◌, ℕ, suc, ◌+◌, ◌-◌, ◌*◌, ◌/◌, ◌^◌, ◌<◌, ◌≤◌, Bool, true, false, cond, ℤ, pos, ◌+ℤ◌, ◌≤ℤ◌, Ok, Err, Result, sym, refl, ap, ◌∙◌, subst, ap₂, div-le_self, arith, w32, SFits, to_z, of_z}
+use Rattle.std.proofs.Common.{◌≡◌, ℕ, suc, ◌+◌, ◌-◌, ◌*◌, ◌/◌, ◌^◌, ◌<◌, ◌≤◌, Bool, true, false, cond, ℤ, pos, ◌+ℤ◌, ◌≤ℤ◌, Ok, Err, Result, sym, refl, ap, ◌∙◌, subst, div-le_self, arith, w32, SFits, to_z, of_z}
 use Rattle.std.proofs.lemmas.Int.{ints}
 use Rattle.whole.specs.Division.{floor}
-use Rattle.draws.specs.declared.faults.SourceFault.{SourceFault}
+use Rattle.draws.specs.declared.sources.SourceFault.{SourceFault}
 use Rattle.draws.specs.DrawBits.{draw}
 use Rattle.draws.specs.Rules.{compares}
 use Rattle.draws.specs.Streams.{Stream, Listed, rest}
@@ -81,22 +81,22 @@ module _ {S : Type 0} (coming : S → Stream) (k m : ℕ) (before now : S) where
   summed_more mode after sum v so e f =
       let small = term_small mode k (65536 / (2 + m)) (draw k ((coming now).word 0)) (div-le_self 65536 (2 + m)) in
       let next : v ≡ term mode k (coming before).word (2 + m) = e ∙ term_next mode so.left in
-      let low : pos 0 ≤ℤ v = subst (λ (z : ℤ). pos 0 ≤ℤ z) (sym e) small.0 in
-      let high : v ≤ℤ pos 129 = subst (λ (z : ℤ). z ≤ℤ pos 129) (sym e) small.1 in
+      let low : pos 0 ≤ℤ v = rw e small.0 in
+      let high : v ≤ℤ pos 129 = rw e small.1 in
+      let more = series_more mode k (coming before).word m in
       record {
-        value = ap₂ (λ (a b : ℤ). a +ℤ b) so.value next ∙ sym (series_more mode k (coming before).word m);
+        value = cc;
         low = omega (arith, ints, so.low);
         high = omega (arith, ints, so.high);
         left = leaves_more mode after so.left f;
       }
 
-  -- the same as the machine adds it: x is what is rounded, and n counts the terms
-  pub summed_added : (mode : Mode) (after : S) (shift n : ℕ) (sum v x : ℤ) → m < 999 → n ≡ suc m → shift ≡ 9 → x ≡ pos (65536 / (2 + m)) → SFits w32 v → Summed coming mode k m before now sum → v ≡ rounded mode shift k x (draw k ((coming now).word 0)) → Leaves coming mode 1 now after → Summed coming mode k n before after (to_z w32 (of_z w32 (sum +ℤ to_z w32 (of_z w32 v))))
-  summed_added mode after shift n sum v x lt count nine exact fits so e f =
-      let same : v ≡ rounded mode 9 k (pos (65536 / (2 + m))) (draw k ((coming now).word 0)) = e ∙ ap₂ (λ (j : ℕ) (z : ℤ). rounded mode j k z (draw k ((coming now).word 0))) nine exact in
-      let more = summed_more mode after sum v so same f in
+  -- the same as the machine adds it; n counts the terms
+  pub summed_added : (mode : Mode) (after : S) (n : ℕ) (sum v : ℤ) → m < 999 → n ≡ suc m → SFits w32 v → Summed coming mode k m before now sum → v ≡ rounded mode 9 k (pos (65536 / (2 + m))) (draw k ((coming now).word 0)) → Leaves coming mode 1 now after → Summed coming mode k n before after (to_z w32 (of_z w32 (sum +ℤ to_z w32 (of_z w32 v))))
+  summed_added mode after n sum v lt count fits so e f =
+      let more = summed_more mode after sum v so e f in
       let whole : sum +ℤ v ≡ to_z w32 (of_z w32 (sum +ℤ to_z w32 (of_z w32 v))) = omega (arith, ints, more.low, more.high, fits) in
-      subst (λ (z : ℤ). Summed coming mode k n before after z) whole (subst (λ (j : ℕ). Summed coming mode k j before after (sum +ℤ v)) (sym count) more)
+      rw (count, ← whole) more
 
   -- where 999 words were left at first, one is left before each term
   pub word_left : Listed (coming before) → m < 999 → (coming before).left 999 ≡ true → Leaves coming Stochastic m before now → (coming now).left 1 ≡ true

@@ -1,7 +1,7 @@
 -- The harmonic series in s8.7: signed numbers of 16 bits, 7 of them fraction. Assumes nothing.
 use Rattle.std.specs.Prelude.{◌≡◌, ℕ, ◌-◌, ◌/◌, true, false, ℤ, pos, ◌+ℤ◌, Ok, Err, Result}
 use Rattle.whole.specs.Sums.{sum_ℤ, span}
-use Rattle.draws.specs.declared.faults.SourceFault.{SourceFault}
+use Rattle.draws.specs.declared.sources.SourceFault.{SourceFault}
 use Rattle.draws.specs.DrawBits.{draw}
 use Rattle.draws.specs.Refusals.{source_refusal}
 use Rattle.draws.specs.Streams.{Stream}

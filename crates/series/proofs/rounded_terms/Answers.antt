@@ -1,7 +1,7 @@
-use Rattle.std.proofs.Common.{◌≡◌, ℕ, ◌+◌, ◌-◌, ◌/◌, true, false, ℤ, pos, ap, ◌∙◌, subst, arith, w32, w64, SFits, to_z, of_z, rules}
+use Rattle.std.proofs.Common.{◌≡◌, ℕ, ◌+◌, ◌-◌, ◌/◌, pos, arith, w64, rules}
 use Rattle.std.proofs.lemmas.Int.{to_z-of_z}
-use Rattle.unit.specs.declared.modes.Mode.{Mode}
-use Rattle.unit.specs.Rounding.{Leaves}
+use Rattle.draws.specs.DrawBits.{draw}
+use Rattle.unit.specs.Rounding.{rounded}
 use Rattle.series.proofs.Terms.{summed_none, summed_added, word_left}
 use Rattle.series.proofs.rounded_terms.Goals as goal
 
@@ -15,24 +15,21 @@ pub returns-in_err-sum : goal.returns-in_err-sum
 returns-in_err-sum g c =
     let before = c.args.source.now in
     let now = c.loop-i.source in
-    let coming = g.S.Source.coming in
-    let m : ℕ = c.loop-i.i - 2 in
     let told = c.in_err-sum.ensures.answer in
-    let so = subst (λ (mode : Mode). Leaves coming mode m before now) told.0 c.loop-i.invariant.left in
-    let some : (coming now).left 1 ≡ true = word_left coming 0 m before now (g.met.S.Source.listed before) (omega (arith, c.loop-i-test.true)) (c.requires.1 told.0) so in
-    let none : (coming now).left 1 ≡ false = told.1 in
-    let z : ◌≡◌ {A = ℕ} 0 1 = cc in
-    absurd (omega (arith, z))
+    let so = rw told.0 at c.loop-i.invariant.left in
+    let some = word_left g.S.Source.coming 0 (c.loop-i.i - 2) before now (g.met.S.Source.listed before) (omega (arith, c.loop-i-test.true)) (c.requires.1 told.0) so in
+    cc told.1
 
 pub loop-i-preserved : goal.loop-i-preserved
 loop-i-preserved g c =
     let s = c.args.stretch.now.unit.now.settings in
+    let coming = g.S.Source.coming in
     let i = c.loop-i.i in
     let m : ℕ = i - 2 in
+    let now = c.loop-i.source in
+    let v = c.in_ok-sum.field-0 in
     let told = c.in_ok-sum.ensures.answer in
-    let x : ℤ = to_z w64 (of_z w64 c.from.result) in
+    let x_read = to_z-of_z w64 c.from.result (search rules) in
     let place : i ≡ 2 + m = omega (arith, c.loop-i.auto.i) in
-    let exact : c.from.result ≡ pos (65536 / (2 + m)) = c.from.ensures ∙ ap (λ (j : ℕ). pos (65536 / j)) place in
-    let fits : SFits w64 c.from.result = search rules in
-    let small : SFits w32 c.in_ok-sum.field-0 = search rules in
-    summed_added g.S.Source.coming s.k.bits m c.args.source.now c.loop-i.source s.mode c.round.new.source s.n (i + 1 - 2) _ c.in_ok-sum.field-0 x (omega (arith, c.loop-i-test.true)) (omega (arith, place)) c.requires.0 (to_z-of_z w64 c.from.result fits ∙ exact) small c.loop-i.invariant told.0 told.1
+    let exact : v ≡ rounded s.mode 9 s.k.bits (pos (65536 / (2 + m))) (draw s.k.bits ((coming now).word 0)) = cc in
+    summed_added coming s.k.bits m c.args.source.now now s.mode c.round.new.source (i + 1 - 2) _ v (omega (arith, c.loop-i-test.true)) (omega (arith, place)) (search rules) c.loop-i.invariant exact told.1
