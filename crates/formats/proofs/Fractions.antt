@@ -2,7 +2,8 @@
 use Rattle.std.proofs.Common.{◌≡◌, ℕ, ◌*◌, ◌/◌, ◌^◌, ◌<◌, false, cond, ℤ, pos, ◌-ℤ◌, ◌*ℤ◌, nat_abs, sym, ap, ◌∙◌, ap₂, mul_assoc, mul_right_comm, arith}
 use native.Mathlib.Nat.{mul-div-mul_right}
 use Rattle.std.proofs.lemmas.Int.{ints}
-use Rattle.whole.proofs.Integers.{abs-mul, expand, mul-≤, mul-<, cancel-≤, cancel-<}
+use Rattle.std.proofs.lemmas.Int.{unsigned_abs-mul}
+use Rattle.whole.proofs.Integers.{expand, mul-≤, mul-<, cancel-≤, cancel-<}
 use Rattle.formats.specs.declared.split.Split.{Split}
 use Rattle.formats.specs.Meaning.{Meaning, Lawful}
 use Rattle.formats.specs.Exact.{Exact}
@@ -48,9 +49,9 @@ module _ (x y : Exact) (some : 0 < x.denominator) (some' : 0 < y.denominator) (c
   -- the distances are in proportion to the denominators
   distance_same : (v : ℤ) → distance x v * y.denominator ≡ distance y v * x.denominator
   distance_same v =
-      sym (abs-mul (x.numerator -ℤ v *ℤ pos x.denominator) (pos y.denominator))
+      sym (unsigned_abs-mul (x.numerator -ℤ v *ℤ pos x.denominator) (pos y.denominator))
       ∙ ap nat_abs products
-      ∙ abs-mul (y.numerator -ℤ v *ℤ pos y.denominator) (pos x.denominator)
+      ∙ unsigned_abs-mul (y.numerator -ℤ v *ℤ pos y.denominator) (pos x.denominator)
     where
       spread : (a b c : ℤ) → (a -ℤ b) *ℤ c ≡ a *ℤ c -ℤ b *ℤ c
       spread a b c = simp expand

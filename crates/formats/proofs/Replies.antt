@@ -3,7 +3,7 @@ use Rattle.std.proofs.Common.{◌≡◌, ℕ, Bool, true, false, cond, ℤ, Some
 use Rattle.draws.specs.DrawBits.{bits_in_range}
 use Rattle.formats.specs.declared.faults.FormatFault.{FormatFault}
 use Rattle.formats.specs.declared.faults.FormatFault.TheVariants.{DrawBitsOutOfRange, NotANumber, ZeroDivisor}
-use Rattle.formats.specs.declared.split.Operation.{Operation}
+use Rattle.formats.specs.declared.split.Calculation.{Calculation}
 use Rattle.formats.specs.declared.split.Split.{Split}
 use Rattle.formats.specs.Refusals.{format_refusal}
 use Rattle.formats.specs.Meaning.{Meaning}
@@ -35,31 +35,31 @@ accepted true true false zero e = let z : ◌≡◌ {A = ℕ} 0 1 = cc in absurd
 accepted true false right zero e = let z : ◌≡◌ {A = ℕ} 0 1 = cc in absurd (omega arith)
 accepted false left right zero e = let z : ◌≡◌ {A = ℕ} 0 1 = cc in absurd (omega arith)
 
-module _ (M N : Meaning) (same : Same M N) (op : Operation) (left right k : ℕ) where
+module _ (M N : Meaning) (same : Same M N) (asked : Calculation) (k : ℕ) where
   -- what is looked at after the left code
   abbrev last_tests : Bool → ℤ → Option ℕ
-  last_tests number w = cond number (cond (divides_by_zero op w) (Some 4) None) (Some 3)
+  last_tests number w = cond number (cond (divides_by_zero asked.operation w) (Some 4) None) (Some 3)
 
-  last_alike : (number : Bool) → M.number right ≡ number → last_tests (M.number right) (M.value right) ≡ last_tests (N.number right) (N.value right)
-  last_alike true e = ap₂ last_tests (same.number right) (same.value right e)
+  last_alike : (number : Bool) → M.number asked.right ≡ number → last_tests (M.number asked.right) (M.value asked.right) ≡ last_tests (N.number asked.right) (N.value asked.right)
+  last_alike true e = ap₂ last_tests (same.number asked.right) (same.value asked.right e)
   last_alike false e =
-      ap (λ (b : Bool). last_tests b (M.value right)) e ∙ sym (ap (λ (b : Bool). last_tests b (N.value right)) (sym (same.number right) ∙ e))
+      ap (λ (b : Bool). last_tests b (M.value asked.right)) e ∙ sym (ap (λ (b : Bool). last_tests b (N.value asked.right)) (sym (same.number asked.right) ∙ e))
 
   -- so refusals are alike
-  pub refusal_alike : refusal M op left right k ≡ refusal N op left right k
-  refusal_alike = ap₂ (λ (b : Bool) (o : Option ℕ). cond (bits_in_range k) (cond b o (Some 3)) (Some 2)) (same.number left) (last_alike (M.number right) refl)
+  pub refusal_alike : refusal M asked k ≡ refusal N asked k
+  refusal_alike = ap₂ (λ (b : Bool) (o : Option ℕ). cond (bits_in_range k) (cond b o (Some 3)) (Some 2)) (same.number asked.left) (last_alike (M.number asked.right) refl)
 
   -- and so are splits
-  splits_alike : (s t : Split) → AnswersSplit M op left right k (Ok s) → AnswersSplit N op left right k (Ok t) → s ≡ t
+  splits_alike : (s t : Split) → AnswersSplit M asked k (Ok s) → AnswersSplit N asked k (Ok t) → s ≡ t
   splits_alike s t a b =
-      let passed = accepted (bits_in_range k) (M.number left) (M.number right) (divides_by_zero op (M.value right)) a.0 in
-      let x : Exact = exact M op left right in
-      let some = denominator_positive M.unit op (M.value left) (M.value right) passed.2 in
-      let fraction : x ≡ exact N op left right =
-      ap (λ (u : ℕ). of_values u op (M.value left) (M.value right)) same.unit ∙ ap₂ (of_values N.unit op) (same.value left passed.0) (same.value right passed.1) in
+      let passed = accepted (bits_in_range k) (M.number asked.left) (M.number asked.right) (divides_by_zero asked.operation (M.value asked.right)) a.0 in
+      let x : Exact = exact M asked in
+      let some = denominator_positive M.unit asked.operation (M.value asked.left) (M.value asked.right) passed.2 in
+      let fraction : x ≡ exact N asked =
+      ap (λ (u : ℕ). of_values u asked.operation (M.value asked.left) (M.value asked.right)) same.unit ∙ ap₂ (of_values N.unit asked.operation) (same.value asked.left passed.0) (same.value asked.right passed.1) in
       unique M k x s t a.1 (splits_back M N same k x some t (subst (λ (y : Exact). Splits N k y t) (sym fraction) b.1))
 
-  pub replies_alike : (a b : Result Split FormatFault) → AnswersSplit M op left right k a → AnswersSplit N op left right k b → a ≡ b
+  pub replies_alike : (a b : Result Split FormatFault) → AnswersSplit M asked k a → AnswersSplit N asked k b → a ≡ b
   replies_alike (Ok s) (Ok t) a b = ap Ok (splits_alike s t a b)
   replies_alike (Ok s) (Err e) a b = let c = sym a.0 ∙ refusal_alike ∙ b in let z : ◌≡◌ {A = ℕ} 0 1 = cc in absurd (omega arith)
   replies_alike (Err e) (Ok t) a b = let c = sym a ∙ refusal_alike ∙ b.0 in let z : ◌≡◌ {A = ℕ} 0 1 = cc in absurd (omega arith)

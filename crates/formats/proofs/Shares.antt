@@ -2,7 +2,8 @@
 use Rattle.std.proofs.Common.{◌≡◌, ℕ, zero, suc, ◌+◌, ◌-◌, ◌*◌, ◌/◌, ◌%◌, ◌^◌, ◌<◌, ◌≤◌, ◌⊎◌, ℤ, pos, ◌+ℤ◌, ◌-ℤ◌, ◌*ℤ◌, neg_ℤ, nat_abs, sym, refl, ap, ◌∙◌, subst, ap₂, inl, inr, arith, pow_pos}
 use native.Mathlib.Nat as NatL
 use Rattle.std.proofs.lemmas.Int.{ints}
-use Rattle.whole.proofs.Integers.{abs-mul, add-mul, neg-mul, mul-neg}
+use Rattle.std.proofs.lemmas.Int.{unsigned_abs-mul}
+use Rattle.whole.proofs.Integers.{add-mul, neg-mul, mul-neg}
 use Rattle.formats.specs.declared.split.Split.{Split}
 use Rattle.formats.specs.Meaning.{Meaning}
 use Rattle.formats.specs.Exact.{Exact}
@@ -70,7 +71,7 @@ pub record Counted (M : Meaning) (k : ℕ) (x : Exact) (s : Split) : Type 0 wher
 distances : (x : Exact) (v w : ℤ) → Between x v w → distance x v + distance x w ≡ nat_abs (w -ℤ v) * x.denominator
 distances x v w sides =
     by_side sides
-    (sym (abs-mul (w -ℤ v) (pos x.denominator))
+    (sym (unsigned_abs-mul (w -ℤ v) (pos x.denominator))
     ∙ ap nat_abs (add-mul w (neg_ℤ v) (pos x.denominator) ∙ ap (λ (z : ℤ). w *ℤ pos x.denominator +ℤ z) (neg-mul v (pos x.denominator))))
   where
     by_side : Between x v w → nat_abs (w -ℤ v) * x.denominator ≡ nat_abs (w *ℤ pos x.denominator -ℤ v *ℤ pos x.denominator) → distance x v + distance x w ≡ nat_abs (w -ℤ v) * x.denominator

@@ -1,7 +1,7 @@
 -- The laws leave exactly one split for each exact result and k. Assumes nothing.
 use Rattle.std.specs.Prelude.{◌≡◌, ℕ, ◌<◌, true, ℤ, Result}
 use Rattle.formats.specs.declared.faults.FormatFault.{FormatFault}
-use Rattle.formats.specs.declared.split.Operation.{Operation}
+use Rattle.formats.specs.declared.split.Calculation.{Calculation}
 use Rattle.formats.specs.declared.split.Split.{Split}
 use Rattle.formats.specs.Meaning.{Meaning, Value, Lawful}
 use Rattle.formats.specs.Exact.{Exact}
@@ -27,5 +27,5 @@ pub record Determined : Type 0 where
   pub one : (M : Meaning) → Lawful M → (k : ℕ) (x : Exact) → OneSplit M k x
   -- formats of the same meaning split alike, and answer the question alike
   pub alike : (M N : Meaning) → Same M N → (k : ℕ) (x : Exact) → 0 < x.denominator → (s t : Split) → Splits M k x s → Splits N k x t → s ≡ t
-  pub answers_alike : (M N : Meaning) → Same M N → (op : Operation) (left right k : ℕ) (a b : Result Split FormatFault) →
-      AnswersSplit M op left right k a → AnswersSplit N op left right k b → a ≡ b
+  pub answers_alike : (M N : Meaning) → Same M N → (asked : Calculation) (k : ℕ) (a b : Result Split FormatFault) →
+      AnswersSplit M asked k a → AnswersSplit N asked k b → a ≡ b

@@ -1,5 +1,6 @@
 -- The exact results of the operations, as fractions. Assumes nothing.
 use Rattle.std.specs.Prelude.{◌≡◌, ℕ, ◌^◌, ℤ, pos, negsuc, ◌+ℤ◌, ◌-ℤ◌, ◌*ℤ◌, neg_ℤ, unsigned_abs}
+use Rattle.formats.specs.declared.split.Calculation.{Calculation}
 use Rattle.formats.specs.declared.split.Operation.{Operation}
 use Rattle.formats.specs.declared.split.Operation.TheVariants.{Sum, Difference, Product, Quotient}
 use Rattle.formats.specs.Meaning.{Meaning}
@@ -21,9 +22,9 @@ of_values u Difference v w = record { numerator = v -ℤ w; denominator = 1 }
 of_values u Product v w = record { numerator = v *ℤ w; denominator = 2 ^ u }
 of_values u Quotient v w = record { numerator = signed_as w (v *ℤ pos (2 ^ u)); denominator = unsigned_abs w }
 
--- of the values of two codes
-abbrev pub exact : Meaning → Operation → ℕ → ℕ → Exact
-exact M op left right = of_values M.unit op (M.value left) (M.value right)
+-- of the values of the two codes
+abbrev pub exact : Meaning → Calculation → Exact
+exact M asked = of_values M.unit asked.operation (M.value asked.left) (M.value asked.right)
 
 -- That x units are the exact result, by cross-multiplication: x is v + w, x is v - w, x * 2 ^ u is v * w, x * w is v * 2 ^ u.
 abbrev pub IsResult : ℕ → Operation → ℤ → ℤ → Exact → Type 0

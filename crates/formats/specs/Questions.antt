@@ -2,6 +2,7 @@
 use Rattle.std.specs.Prelude.{◌≡◌, ℕ, Bool, true, false, cond, ℤ, Some, None, Ok, Err, Option, Result, ◌==◌, unsigned_abs}
 use Rattle.draws.specs.DrawBits.{bits_in_range}
 use Rattle.formats.specs.declared.faults.FormatFault.{FormatFault}
+use Rattle.formats.specs.declared.split.Calculation.{Calculation}
 use Rattle.formats.specs.declared.split.Operation.{Operation}
 use Rattle.formats.specs.declared.split.Operation.TheVariants.{Sum, Difference, Product, Quotient}
 use Rattle.formats.specs.declared.split.Split.{Split}
@@ -31,13 +32,15 @@ divides_by_zero Product w = false
 divides_by_zero Quotient w = unsigned_abs w == 0
 
 -- the number that a split or an operation is refused by, if it is: a bad k, the left code, the right code, a divisor of value 0
-abbrev pub refusal : Meaning → Operation → ℕ → ℕ → ℕ → Option ℕ
-refusal M op left right k =
+abbrev pub refusal : Meaning → Calculation → ℕ → Option ℕ
+refusal M asked k =
     cond (bits_in_range k)
-    (cond (M.number left) (cond (M.number right) (cond (divides_by_zero op (M.value right)) (Some 4) None) (Some 3)) (Some 3))
+    (cond (M.number asked.left)
+    (cond (M.number asked.right) (cond (divides_by_zero asked.operation (M.value asked.right)) (Some 4) None) (Some 3))
+    (Some 3))
     (Some 2)
 
 -- the split of the exact result at k, or the refusal
-abbrev pub AnswersSplit : Meaning → Operation → ℕ → ℕ → ℕ → Result Split FormatFault → Type 0
-AnswersSplit M op left right k (Ok s) = (refusal M op left right k ≡ None) × Splits M k (exact M op left right) s
-AnswersSplit M op left right k (Err e) = refusal M op left right k ≡ Some (format_refusal e)
+abbrev pub AnswersSplit : Meaning → Calculation → ℕ → Result Split FormatFault → Type 0
+AnswersSplit M asked k (Ok s) = (refusal M asked k ≡ None) × Splits M k (exact M asked) s
+AnswersSplit M asked k (Err e) = refusal M asked k ≡ Some (format_refusal e)

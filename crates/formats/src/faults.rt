@@ -1,13 +1,15 @@
-// What a format refuses, and by which number.
+//! What a format refuses, and by which number.
 ghost use Rattle.std.specs.Prelude.{◌≡◌, Some};
-ghost use Rattle.formats.specs.Refusals.{format_refusal, format_fault_text};
+ghost use Rattle.std.proofs.Common.{rules};
+ghost use Rattle.draws.specs.Refusals.{refused_by};
+ghost use Rattle.formats.specs.Refusals.{format_refusal};
 ghost use Rattle.formats.specs.declared.faults.FormatFault.TheVariants.{DrawBitsOutOfRange};
 
-use draws::DrawBitsFault;
+use draws::{DrawBitsFault, Refusal};
 use std::error::Error;
 use std::fmt;
 
-// A number of draw bits that is not 1 to 32, a code that is no number, or a divisor of value 0.
+/// A number of draw bits that is not 1 to 32, a code that is no number, or a divisor of value 0.
 #[derive(Clone, Copy, PartialEq, Eq, Debug)]
 pub enum FormatFault {
     DrawBitsOutOfRange,
@@ -15,11 +17,12 @@ pub enum FormatFault {
     ZeroDivisor,
 }
 
-impl FormatFault {
-    // The number it is refused by.
-    pub fn number(self) -> u32
-        ensures { result ≡ format_refusal self }
-    {
+impl Refusal for FormatFault {
+    ghost refusal = { format_refusal };
+
+    ghost known = { Prim.search rules };
+
+    fn number(self) -> u32 {
         match self {
             FormatFault::DrawBitsOutOfRange => 2,
             FormatFault::NotANumber => 3,
@@ -39,14 +42,10 @@ impl From<DrawBitsFault> for FormatFault {
 }
 
 impl fmt::Display for FormatFault {
-    ghost output = { λ fault. Some (format_fault_text fault) };
+    ghost output = { λ fault. Some (refused_by (format_refusal fault)) };
 
     fn fmt<W: fmt::Write>(&self, f: &mut fmt::Formatter<W>) -> fmt::Result {
-        f.write_str(match self {
-            FormatFault::DrawBitsOutOfRange => "refused by 2",
-            FormatFault::NotANumber => "refused by 3",
-            FormatFault::ZeroDivisor => "refused by 4",
-        })
+        write!(f, "refused by {}", self.number())
     }
 }
 
