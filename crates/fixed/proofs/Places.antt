@@ -1,5 +1,5 @@
 -- Where an exact result lies among the numbers of fixed point, from its floor and what is left over. Assumes nothing.
-use Rattle.std.proofs.Common.{◌≡◌, ℕ, ◌+◌, ◌*◌, ◌/◌, ◌^◌, ◌<◌, true, false, ℤ, pos, ◌+ℤ◌, ◌-ℤ◌, ◌*ℤ◌, nat_abs, ◌≤ℤ◌, ◌<ℤ◌, sym, ap, ◌∙◌, ap₂, arith}
+use Rattle.std.proofs.Common.{◌≡◌, ℕ, ◌+◌, ◌*◌, ◌/◌, ◌^◌, ◌<◌, true, false, ℤ, pos, ◌+ℤ◌, ◌-ℤ◌, ◌*ℤ◌, nat_abs, ◌≤ℤ◌, ◌<ℤ◌, inl, inr, refl, sym, subst, ap, ◌∙◌, ap₂, arith}
 use native.Mathlib.Nat as NatL
 use Rattle.std.proofs.lemmas.Int.{ints}
 use Rattle.whole.specs.Division.{Divided}
@@ -7,9 +7,12 @@ use Rattle.whole.proofs.Integers.{add-mul, mul-≤, cancel-<, cancel-≤}
 use Rattle.formats.specs.declared.split.Split.{Split}
 use Rattle.formats.specs.Exact.{Exact}
 use Rattle.formats.specs.Neighbours.{Neighbours, AtMost, AtLeast, Under, Over}
-use Rattle.formats.specs.Splits.{Splits, above, under, within, between, share, distance}
+use Rattle.formats.specs.Splits.{Splits, above, under, within, between, clamped_at, share, distance}
+use Rattle.fixed.specs.declared.sizes.Fixed.{Fixed}
 use Rattle.fixed.specs.Fixed.{InsideFixed, code_of, fixed}
 use Rattle.fixed.specs.Ranges.{some_codes, most_codes, inside_value, greatest, least}
+use Rattle.fixed.specs.Sized.{format_of, Beyond}
+use Rattle.fixed.proofs.Answering.{greatest_inside, least_inside}
 
 -- the same code twice
 twice : {c e : ℕ} → c ≡ e → ◌≡◌ {A = Split} (record { parts = (c, c, 0); clamped = true }) (record { parts = (e, e, 0); clamped = true })
@@ -124,3 +127,20 @@ module _ (x : Exact) (q : ℤ) (r : ℕ) (parts : Divided x.numerator x.denomina
         same =
             ap₂ (λ (a b : ℕ). let t : Split = record { parts = (a, b, m); clamped = false } in t) e e'
             ∙ ap (λ (b : ℕ). let t : Split = record { parts = (code_of (2 ^ (s + i + p)) q, code_of (2 ^ (s + i + p)) (q +ℤ pos 1), b); clamped = false } in t) (f ∙ count)
+
+-- the split of x at an end of a format, where its floor is beyond that end
+module _ (f : Fixed) (x : Exact) (q : ℤ) (r : ℕ) (parts : Divided x.numerator x.denominator q r) (k : ℕ) (s : Split) (g : Fixed) (v : ℤ) (same : g ≡ f) (clamps : s ≡ clamped_at (format_of g) v) where
+  at : (w : ℤ) → v ≡ w → s ≡ clamped_at (format_of f) w
+  at w e = clamps ∙ ap₂ (λ (h : Fixed) (z : ℤ). clamped_at (format_of h) z) same e
+
+  pub placed_at_greatest : v ≡ pos (2 ^ (f.integer + f.fraction)) -ℤ pos 1 → pos 0 ≤ℤ q → Beyond f q → Splits (format_of f) k x s
+  placed_at_greatest e positive (inl more) =
+      subst (Splits (format_of f) k x) (sym (at _ e))
+      (placed_above x q r parts f.sign f.integer f.fraction k (pos (2 ^ (f.integer + f.fraction)) -ℤ pos 1) (greatest_inside f) (omega (arith, ints)) (omega (arith, ints, more)) _ refl)
+  placed_at_greatest e positive (inr less) = absurd (omega (arith, ints, less, most_codes f.sign f.integer f.fraction))
+
+  pub placed_at_least : v ≡ pos (2 ^ (f.integer + f.fraction)) -ℤ pos (2 ^ (f.sign + f.integer + f.fraction)) → q <ℤ pos 0 → Beyond f q → Splits (format_of f) k x s
+  placed_at_least e negative (inl more) = absurd (omega (arith, ints, more))
+  placed_at_least e negative (inr less) =
+      subst (Splits (format_of f) k x) (sym (at _ e))
+      (placed_under x q r parts f.sign f.integer f.fraction k (pos (2 ^ (f.integer + f.fraction)) -ℤ pos (2 ^ (f.sign + f.integer + f.fraction))) (least_inside f) (omega (arith, ints)) less _ refl)

@@ -1,7 +1,7 @@
 pub mod Refusals
 pub mod Sizes
 pub mod Fixed
-pub mod Steps
 pub mod Stated
 pub mod Sized
+pub mod Numbers
 pub mod Ranges

@@ -113,3 +113,7 @@ fixed_code_number s i p v h c e =
 pub fixed_code_value : (s i p : ℕ) (v : ℤ) → InsideFixed s i p v → (c : ℕ) → c ≡ (fixed s i p).result v → (fixed s i p).value c ≡ v
 fixed_code_value s i p v h c e =
     ap (fixed s i p).value e ∙ code_value (2 ^ (s + i + p)) (2 ^ (i + p)) p (some_codes i p) (most_codes s i p) v h
+
+-- fixed point keeps the laws of formats
+pub fixed_lawful : (s i p : ℕ) → s + i + p ≤ 32 → Lawful (fixed s i p)
+fixed_lawful s i p few = lawful (2 ^ (s + i + p)) (2 ^ (i + p)) p (some_codes i p) (most_codes s i p) (pow_mono few)

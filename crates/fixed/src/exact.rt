@@ -1,58 +1,72 @@
-// The exact results of the operations, as fractions of units.
-ghost use Rattle.std.specs.Prelude.{◌≡◌, ◌^◌, ◌<◌, ◌≤◌, pos, ◌*ℤ◌, unsigned_abs};
+//! The exact results of the operations, as fractions of units.
+ghost use Rattle.std.specs.Prelude.{◌≡◌, ◌^◌, ◌<◌, ◌==◌, true, false, pos, ◌*ℤ◌, Ok, Err, unsigned_abs};
 ghost use Rattle.formats.specs.Exact.{of_values, signed_as};
+ghost use Rattle.formats.specs.Questions.{divides_by_zero};
+ghost use Rattle.formats.specs.Refusals.{format_refusal};
 
+use crate::fraction::Fraction;
+use crate::number::Number;
 use crate::sizes::Fixed;
-use formats::Operation;
+use formats::{FormatFault, Operation};
 
-// v * w.
-fn product(v: i128, w: i128) -> i128
-    requires left { unsigned_abs v < 2 ^ 32 }
-    requires right { unsigned_abs w ≤ 2 ^ 32 }
-    ensures value { result ≡ v *ℤ w }
+/// n with the sign of w.
+fn signed_as(n: i128, w: i128) -> i128
+    requires { unsigned_abs n < 2 ^ 64 }
+    ensures value { result ≡ signed_as w n }
     ensures fits { unsigned_abs result < 2 ^ 64 }
 {
-    v * w
-}
-
-// n / w with its sign in the numerator.
-fn quotient(n: i128, w: i128) -> (i128, u64)
-    requires dividend { unsigned_abs n < 2 ^ 64 }
-    requires divisor { unsigned_abs w < 2 ^ 32 }
-    ensures numerator { result.0 ≡ signed_as w n }
-    ensures denominator { result.1 ≡ unsigned_abs w }
-    ensures fits { unsigned_abs result.0 < 2 ^ 64 }
-{
-    if w < 0 {
-        (-n, w.unsigned_abs() as u64)
-    } else {
-        (n, w.unsigned_abs() as u64)
-    }
+    if w < 0 { -n } else { n }
 }
 
 impl Fixed {
-    // How many units make one.
-    fn units_in_one(self) -> i128
-        ensures value { result ≡ pos (2 ^ self.fraction) }
-        ensures small { unsigned_abs result ≤ 2 ^ 32 }
+    /// The exact result for two numbers. Refuses a divisor of value 0.
+    pub(crate) fn exact(
+        self,
+        operation: Operation,
+        left: Number,
+        right: Number,
+    ) -> Result<Fraction, FormatFault>
+        ensures { elim result [ Ok x ↦ (divides_by_zero operation right.value ≡ false) × (x.numerator ≡ (of_values self.fraction operation left.value right.value).numerator) × (x.denominator ≡ (of_values self.fraction operation left.value right.value).denominator) | Err e ↦ (divides_by_zero operation right.value ≡ true) × (format_refusal e ≡ 4) ] }
     {
-        1 << self.fraction_bits()
+        // an operation is a value that is read and compared, which no closure can be
+        match operation {
+            Operation::Sum => Ok(Fraction {
+                numerator: left.units() + right.units(),
+                denominator: 1,
+            }),
+            Operation::Difference => Ok(Fraction {
+                numerator: left.units() - right.units(),
+                denominator: 1,
+            }),
+            Operation::Product => Ok(Fraction {
+                numerator: left.units() * right.units(),
+                denominator: self.units_in_one(),
+            }),
+            Operation::Quotient => self.quotient(left, right),
+        }
     }
 
-    // Numerator and denominator of the exact result, for the values of two numbers.
-    pub(crate) fn exact(self, operation: Operation, v: i128, w: i128) -> (i128, u64)
-        requires left { unsigned_abs v < 2 ^ 32 }
-        requires right { unsigned_abs w < 2 ^ 32 }
-        ensures numerator { result.0 ≡ (of_values self.fraction operation v w).numerator }
-        ensures denominator { result.1 ≡ (of_values self.fraction operation v w).denominator }
-        ensures fits { unsigned_abs result.0 < 2 ^ 64 }
-        ensures small { result.1 ≤ 2 ^ 32 }
+    /// The value of a number, times as many units as make one.
+    fn scaled(self, number: Number) -> i128
+        ensures value { result ≡ number.value *ℤ pos (2 ^ self.fraction) }
+        ensures fits { unsigned_abs result < 2 ^ 64 }
     {
-        match operation {
-            Operation::Sum => (v + w, 1),
-            Operation::Difference => (v - w, 1),
-            Operation::Product => (product(v, w), self.units_in_one() as u64),
-            Operation::Quotient => quotient(product(v, self.units_in_one()), w),
+        number.units() * i128::from(self.units_in_one())
+    }
+
+    /// left / right, with its sign in the numerator.
+    fn quotient(self, left: Number, right: Number) -> Result<Fraction, FormatFault>
+        ensures { elim result [ Ok x ↦ ((unsigned_abs right.value == 0) ≡ false) × (x.numerator ≡ signed_as right.value (left.value *ℤ pos (2 ^ self.fraction))) × (x.denominator ≡ unsigned_abs right.value) | Err e ↦ ((unsigned_abs right.value == 0) ≡ true) × (format_refusal e ≡ 4) ] }
+    {
+        let dividend = self.scaled(left);
+        let divisor = right.units();
+        if divisor == 0 {
+            return Err(FormatFault::ZeroDivisor);
         }
+        Ok(Fraction {
+            numerator: signed_as(dividend, divisor),
+            // below 2^32 as a value is
+            denominator: divisor.unsigned_abs() as u64,
+        })
     }
 }

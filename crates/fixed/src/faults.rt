@@ -1,21 +1,25 @@
-// What is refused here, and by which number.
-ghost use Rattle.std.specs.Prelude.{◌≡◌, Some, codes};
+//! What is refused here, and by which number.
+ghost use Rattle.std.specs.Prelude.{◌≡◌, Some};
+ghost use Rattle.std.proofs.Common.{rules};
+ghost use Rattle.draws.specs.Refusals.{refused_by};
 ghost use Rattle.fixed.specs.Refusals.{sizes_refusal};
 
+use draws::Refusal;
 use std::error::Error;
 use std::fmt;
 
-// Sizes that no fixed-point format has.
+/// Sizes that no fixed-point format has.
 #[derive(Clone, Copy, PartialEq, Eq, Debug)]
 pub enum SizesFault {
     OutOfRange,
 }
 
-impl SizesFault {
-    // The number it is refused by.
-    pub fn number(self) -> u32
-        ensures { result ≡ sizes_refusal self }
-    {
+impl Refusal for SizesFault {
+    ghost refusal = { sizes_refusal };
+
+    ghost known = { Prim.search rules };
+
+    fn number(self) -> u32 {
         match self {
             SizesFault::OutOfRange => 1,
         }
@@ -23,10 +27,10 @@ impl SizesFault {
 }
 
 impl fmt::Display for SizesFault {
-    ghost output = { λ _. Some (codes "refused by 1") };
+    ghost output = { λ fault. Some (refused_by (sizes_refusal fault)) };
 
     fn fmt<W: fmt::Write>(&self, f: &mut fmt::Formatter<W>) -> fmt::Result {
-        f.write_str("refused by 1")
+        write!(f, "refused by {}", self.number())
     }
 }
 

@@ -1,24 +1,25 @@
-// Fixed point: s sign bits, i integer bits and p fractional bits, 2 to 32 in all, written s8.7 or u0.32.
-//
-// `Fixed` cannot have other sizes. It is a `Format`: its numbers are the codes below 2^(s+i+p), in two's complement where s is 1, its
-// unit is 2^-p, and near is the lower neighbour. Splits are straight-line integer arithmetic: one product and two divisions at most.
+//! Fixed point: s sign bits, i integer bits and p fractional bits, 2 to 32 in all, written s8.7 or u0.32.
+//!
+//! `Fixed` cannot have other sizes. It is a `Format`: its numbers are the codes below 2^(s+i+p), in two's complement where s is 1, its
+//! unit is 2^-p, and near is the lower neighbour. Splits are straight-line integer arithmetic: one product and three divisions at most.
 #![tactic(auto)]
 
-mod division;
 mod exact;
 mod faults;
 mod format;
+mod fraction;
+mod number;
 mod placing;
 mod sizes;
-mod values;
 
 pub use faults::SizesFault;
 pub use sizes::Fixed;
 
-// Examples: sizes at both ends of their range, the corners of 2 and 32 bits, and the order of refusals.
+/// Examples: sizes at both ends of their range, the corners of 2 and 32 bits, and the order of refusals.
 #[cfg(test)]
 mod tests {
     use super::*;
+    use draws::Refusal;
     use formats::{Format, FormatFault, Operation, Split};
     use std::test::Fail;
 
@@ -134,7 +135,7 @@ mod tests {
         ] {
             let format = Fixed::new(s, i, p)?;
             assert_eq!(rt;
-                format.split(operation, left, right, k),
+                format.split(operation.of(left, right), k),
                 Ok(Split { parts, clamped })
             );
         }
@@ -151,7 +152,7 @@ mod tests {
             (0, 0, 8, FormatFault::ZeroDivisor),
         ] {
             assert_eq!(rt;
-                format.split(Operation::Quotient, left, right, k),
+                format.split(Operation::Quotient.of(left, right), k),
                 Err(fault)
             );
         }

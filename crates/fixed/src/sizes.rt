@@ -1,4 +1,4 @@
-// The sizes of a fixed-point format.
+//! The sizes of a fixed-point format.
 ghost use Rattle.std.specs.Prelude.{◌≡◌, ◌+◌, ◌^◌, ◌<◌, ◌≤◌, true, false, Ok, Err};
 ghost use Rattle.fixed.specs.Refusals.{sizes_refusal};
 ghost use Rattle.fixed.specs.Sizes.{sizes_in_range};
@@ -7,7 +7,7 @@ ghost use Rattle.fixed.specs.Stated.{OneCode};
 
 use crate::faults::SizesFault;
 
-// s sign bits (0 or 1), i integer bits and p fractional bits, 2 to 32 in all. No value is out of range.
+/// s sign bits (0 or 1), i integer bits and p fractional bits, 2 to 32 in all. No value is out of range.
 #[derive(Clone, Copy, PartialEq, Eq, Debug)]
 pub struct Fixed {
     sign: u32,
@@ -19,22 +19,16 @@ pub struct Fixed {
 }
 
 impl Fixed {
-    // Refuses sizes that are out of range. In every format that it makes, each value has the code of its number.
+    /// Refuses sizes that are out of range. In every format that it makes, each value has the code of its number.
     pub fn new(s: u64, i: u64, p: u64) -> Result<Fixed, SizesFault>
         ensures answer { elim result [ Ok f ↦ (sizes_in_range s i p ≡ true) × (f.sign ≡ s) × (f.integer ≡ i) × (f.fraction ≡ p) | Err e ↦ (sizes_in_range s i p ≡ false) × (sizes_refusal e ≡ 1) ] }
         ensures own { OneCode (fixed s i p) }
     {
-        Fixed::sized(s, i, p)
-    }
-
-    // The sizes as they are, where they are in range.
-    fn sized(s: u64, i: u64, p: u64) -> Result<Fixed, SizesFault>
-        ensures { elim result [ Ok f ↦ (sizes_in_range s i p ≡ true) × (f.sign ≡ s) × (f.integer ≡ i) × (f.fraction ≡ p) | Err e ↦ (sizes_in_range s i p ≡ false) × (sizes_refusal e ≡ 1) ] }
-    {
         let bits = s.saturating_add(i).saturating_add(p);
-        if s > 1 || bits < 2 || bits > 32 {
+        if s > 1 || !(2..=32).contains(&bits) {
             return Err(SizesFault::OutOfRange);
         }
+        // none is above 32 now
         Ok(Fixed {
             sign: s as u32,
             integer: i as u32,
@@ -42,15 +36,16 @@ impl Fixed {
         })
     }
 
-    // p: the unit is 2^-p.
-    pub(crate) fn fraction_bits(self) -> u32
-        ensures value { result ≡ self.fraction }
-        ensures high { result ≤ 32 }
+    /// How many units make one.
+    pub(crate) fn units_in_one(self) -> u64
+        ensures value { result ≡ 2 ^ self.fraction }
+        ensures some { 0 < result }
+        ensures small { result ≤ 2 ^ 32 }
     {
-        self.fraction
+        1 << self.fraction
     }
 
-    // How many codes are numbers.
+    /// How many codes are numbers.
     pub(crate) fn codes(self) -> u64
         ensures value { result ≡ 2 ^ (self.sign + self.integer + self.fraction) }
         ensures high { result ≤ 2 ^ 32 }
@@ -58,7 +53,7 @@ impl Fixed {
         1 << (self.sign + self.integer + self.fraction)
     }
 
-    // How many of them are not negative: the codes below this one.
+    /// How many of them are not negative: the codes below this one.
     pub(crate) fn non_negative_codes(self) -> u64
         ensures value { result ≡ 2 ^ (self.integer + self.fraction) }
         ensures low { 0 < result }

@@ -1,11 +1,8 @@
-use Rattle.std.proofs.Common.{sym, rules}
-use Rattle.fixed.proofs.Answering.{answers_above}
+use Rattle.std.proofs.Common.{pos}
+use Rattle.fixed.proofs.Answering.{answers_above, same_reach}
 use Rattle.fixed.proofs.format.FixedFormat.next_above.Goals as goal
 
-pub returns : goal.returns
-returns c =
-    let f = c.args.self.now in
-    record {
-      answer = answers_above f.sign f.integer f.fraction c.args.code (sym c.if-not-is_number.ensures.answer) c.above.result c.above.ensures;
-      unchanged = search rules;
-    }
+pub returns-clause-answer : goal.returns-clause-answer
+returns-clause-answer c =
+    let at = c.in_ok-number.ensures in
+    answers_above c.args.self.now c.args.code at.0 c.moved_code.result (same_reach (pos 1) c.moved_code.result at.1 at.2 c.moved_code.ensures)

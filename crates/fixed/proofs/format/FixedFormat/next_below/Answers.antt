@@ -1,11 +1,8 @@
-use Rattle.std.proofs.Common.{sym, rules}
-use Rattle.fixed.proofs.Answering.{answers_below}
+use Rattle.std.proofs.Common.{negsuc}
+use Rattle.fixed.proofs.Answering.{answers_below, same_reach}
 use Rattle.fixed.proofs.format.FixedFormat.next_below.Goals as goal
 
-pub returns : goal.returns
-returns c =
-    let f = c.args.self.now in
-    record {
-      answer = answers_below f.sign f.integer f.fraction c.args.code (sym c.if-not-is_number.ensures.answer) c.below.result c.below.ensures;
-      unchanged = search rules;
-    }
+pub returns-clause-answer : goal.returns-clause-answer
+returns-clause-answer c =
+    let at = c.in_ok-number.ensures in
+    answers_below c.args.self.now c.args.code at.0 c.moved_code.result (same_reach (negsuc 0) c.moved_code.result at.1 at.2 c.moved_code.ensures)

@@ -1,0 +1,48 @@
+//! Fractions of units, and what lies above their whole part.
+ghost use Rattle.std.specs.Prelude.{◌≡◌, ◌*◌, ◌/◌, ◌^◌, ◌<◌, ◌≤◌, unsigned_abs};
+ghost use Rattle.whole.specs.Division.{Divided};
+
+use draws::DrawBits;
+
+/// numerator / denominator units.
+#[derive(Clone, Copy)]
+pub(crate) struct Fraction {
+    pub(crate) numerator: i128,
+    pub(crate) denominator: u64,
+    ghost fits: { unsigned_abs numerator < 2 ^ 64 },
+    ghost some: { 0 < denominator },
+    ghost small: { denominator ≤ 2 ^ 32 },
+}
+
+/// A part of a unit: `part` of as many as `whole`.
+#[derive(Clone, Copy)]
+pub(crate) struct Part {
+    pub(crate) part: u64,
+    whole: u64,
+    ghost below: { part < whole },
+    ghost small: { whole ≤ 2 ^ 32 },
+}
+
+impl Fraction {
+    /// Its floor, and the part of a unit that is left over.
+    pub(crate) fn divided(self) -> (i128, Part)
+        ensures whole { result.1.whole ≡ self.denominator }
+        ensures divided { Divided self.numerator self.denominator result.0 result.1.part }
+    {
+        let whole = self.denominator;
+        let divisor = i128::from(whole);
+        let floor = self.numerator.div_euclid(divisor);
+        // below the divisor
+        let part = self.numerator.rem_euclid(divisor) as u64;
+        (floor, Part { part, whole })
+    }
+}
+
+impl Part {
+    /// How many of the 2^k draws go up.
+    pub(crate) fn share(self, k: DrawBits) -> u64
+        ensures { result ≡ 2 ^ k.bits * self.part / self.whole }
+    {
+        (self.part << k.get()) / self.whole
+    }
+}
