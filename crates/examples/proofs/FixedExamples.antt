@@ -45,7 +45,7 @@ module _ (x : Exact) (q : ℤ) (r : ℕ) (parts : Divided x.numerator x.denomina
       (placed_under x q r parts 1 8 7 8 (negsuc 32767) (record { low = omega (arith, ints); high = omega (arith, ints) }) (omega (arith, ints)) less 0x8000 refl)
 
 -- 129 * 129 is 130 * 128 and 1
-square : split_of (fixed 1 8 7) 8 (exact (fixed 1 8 7) Product 0x0081 0x0081) ≡ record { parts = (0x0082, 0x0083, 2); clamped = false }
+square : split_of (fixed 1 8 7) 8 (exact (fixed 1 8 7) (record { operation = Product; left = 0x0081; right = 0x0081 })) ≡ record { parts = (0x0082, 0x0083, 2); clamped = false }
 square =
     lies_between (record { numerator = pos 16641; denominator = 128 }) (pos 130) 1 (record { whole = refl; rest = lit< tt }) (omega (arith, ints)) (omega (arith, ints)) (lit< tt)
 

@@ -7,7 +7,7 @@ use Rattle.fixed.specs.Fixed.{fixed}
 use Rattle.examples.specs.Shapes.{Example, SplitsInto, ClampsTo, code_sum}
 
 abbrev pub in_s8_7 : Operation → ℕ → ℕ → Example
-in_s8_7 op left right = record { format = fixed 1 8 7; operation = op; left = left; right = right; k = 8 }
+in_s8_7 op left right = record { format = fixed 1 8 7; calculation = record { operation = op; left = left; right = right }; k = 8 }
 
 pub record FixedExamples : Type 0 where
   -- 1.0078125 squared: 2 of the 256 draws go up, and the codes of the results add up to 33282

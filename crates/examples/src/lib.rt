@@ -1,10 +1,10 @@
-// Worked examples of stochastic rounding, proved together as one statement about the meanings that the contracts of formats,
-// rules and operations cite.
+//! Worked examples of stochastic rounding, proved together as one statement about the meanings that the contracts of formats,
+//! rules and operations cite.
 #![tactic(auto)]
 
 ghost use Rattle.examples.specs.Worked.{WorkedExamples};
 
-// The examples hold.
+/// The examples hold.
 pub fn worked_examples()
     ensures { WorkedExamples }
 {}

@@ -6,7 +6,7 @@ use Rattle.whole.proofs.Integers.{expand}
 use Rattle.whole.proofs.Sums.{sum_ℤ_same, sum_ℤ_chosen, length-below}
 use Rattle.draws.specs.Rules.{Says, far_draws}
 use Rattle.formats.specs.declared.faults.FormatFault.{FormatFault}
-use Rattle.formats.specs.declared.split.Operation.{Operation}
+use Rattle.formats.specs.declared.split.Calculation.{Calculation}
 use Rattle.formats.specs.declared.split.Split.{Split}
 use Rattle.formats.specs.Meaning.{Meaning, Lawful}
 use Rattle.formats.specs.Exact.{Exact, exact}
@@ -93,6 +93,6 @@ operation_laws = record {
 }
 
 -- the split that a format gives is the only one
-pub splits_once : (M : Meaning) → Lawful M → (op : Operation) (left right k : ℕ) (r : Result Split FormatFault) → AnswersSplit M op left right k r → SplitsOnce M op left right k r
-splits_once M lawful op left right k (Ok s) h = (h.0, (determined.one M lawful k (exact M op left right)).only s h.1)
-splits_once M lawful op left right k (Err e) h = h
+pub splits_once : (M : Meaning) → Lawful M → (asked : Calculation) (k : ℕ) (r : Result Split FormatFault) → AnswersSplit M asked k r → SplitsOnce M asked k r
+splits_once M lawful asked k (Ok s) h = (h.0, (determined.one M lawful k (exact M asked)).only s h.1)
+splits_once M lawful asked k (Err e) h = h

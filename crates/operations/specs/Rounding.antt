@@ -1,12 +1,12 @@
 -- What an operation answers. Assumes nothing.
 use Rattle.std.specs.Prelude.{◌≡◌, ℕ, true, false, cond, Some, None, Ok, Err, Result}
-use Rattle.draws.specs.declared.faults.SourceFault.{SourceFault}
+use Rattle.draws.specs.declared.sources.SourceFault.{SourceFault}
 use Rattle.draws.specs.DrawBits.{draw}
 use Rattle.draws.specs.Refusals.{source_refusal}
 use Rattle.draws.specs.Rules.{Says}
 use Rattle.draws.specs.Streams.{Stream, rest}
 use Rattle.formats.specs.declared.faults.FormatFault.{FormatFault}
-use Rattle.formats.specs.declared.split.Operation.{Operation}
+use Rattle.formats.specs.declared.split.Calculation.{Calculation}
 use Rattle.formats.specs.declared.split.Split.{Split}
 use Rattle.formats.specs.Refusals.{format_refusal}
 use Rattle.formats.specs.Meaning.{Meaning}
@@ -29,9 +29,9 @@ Rounds coming says k s before after (Ok r) =
 Rounds coming says k s before after (Err e) = ((coming before).left 1 ≡ false) × (source_refusal e ≡ 8) × (after ≡ before)
 
 -- the split of the exact result of an operation, or its refusal
-abbrev pub SplitsOnce : Meaning → Operation → ℕ → ℕ → ℕ → Result Split FormatFault → Type 0
-SplitsOnce M op left right k (Ok s) = (refusal M op left right k ≡ None) × (s ≡ split_of M k (exact M op left right))
-SplitsOnce M op left right k (Err e) = refusal M op left right k ≡ Some (format_refusal e)
+abbrev pub SplitsOnce : Meaning → Calculation → ℕ → Result Split FormatFault → Type 0
+SplitsOnce M asked k (Ok s) = (refusal M asked k ≡ None) × (s ≡ split_of M k (exact M asked))
+SplitsOnce M asked k (Err e) = refusal M asked k ≡ Some (format_refusal e)
 
 -- an exact result rounded by a draw of k bits
 abbrev pub rounded : Says → Meaning → ℕ → Exact → ℕ → Rounded
@@ -39,10 +39,10 @@ rounded says M k x t = chosen says k (split_of M k x) t
 
 -- The exact result, rounded by the draw of the next word. Refused by a bad k, a code that is no number, a divisor of value 0, or by 8 where no
 -- word is left; the source is then as before.
-abbrev pub Performs : {S : Type 0} → (S → Stream) → Says → Meaning → Operation → ℕ → ℕ → ℕ → S → S → Result Rounded OperationFault → Type 0
-Performs coming says M op left right k before after (Ok r) =
-    (refusal M op left right k ≡ None) × ((coming before).left 1 ≡ true)
-    × (r ≡ rounded says M k (exact M op left right) (draw k ((coming before).word 0))) × (coming after ≡ rest (coming before))
-Performs coming says M op left right k before after (Err (Format e)) = (refusal M op left right k ≡ Some (format_refusal e)) × (after ≡ before)
-Performs coming says M op left right k before after (Err (Source e)) =
-    (refusal M op left right k ≡ None) × ((coming before).left 1 ≡ false) × (source_refusal e ≡ 8) × (after ≡ before)
+abbrev pub Performs : {S : Type 0} → (S → Stream) → Says → Meaning → Calculation → ℕ → S → S → Result Rounded OperationFault → Type 0
+Performs coming says M asked k before after (Ok r) =
+    (refusal M asked k ≡ None) × ((coming before).left 1 ≡ true)
+    × (r ≡ rounded says M k (exact M asked) (draw k ((coming before).word 0))) × (coming after ≡ rest (coming before))
+Performs coming says M asked k before after (Err (Format e)) = (refusal M asked k ≡ Some (format_refusal e)) × (after ≡ before)
+Performs coming says M asked k before after (Err (Source e)) =
+    (refusal M asked k ≡ None) × ((coming before).left 1 ≡ false) × (source_refusal e ≡ 8) × (after ≡ before)

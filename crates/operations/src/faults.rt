@@ -1,26 +1,30 @@
-// What an operation refuses, and by which number.
+//! What an operation refuses, and by which number.
 ghost use Rattle.std.specs.Prelude.{◌≡◌, Some};
+ghost use Rattle.std.proofs.Common.{rules};
+ghost use Rattle.draws.specs.Refusals.{refused_by};
 ghost use Rattle.formats.specs.declared.faults.FormatFault.TheVariants.{DrawBitsOutOfRange};
-ghost use Rattle.operations.specs.Refusals.{operation_refusal, operation_fault_text};
+ghost use Rattle.operations.specs.Refusals.{operation_refusal};
 ghost use Rattle.operations.specs.declared.faults.OperationFault.TheVariants.{Format, Source};
 
-use draws::{DrawBitsFault, SourceFault};
+use draws::{DrawBitsFault, Refusal, SourceFault};
 use formats::FormatFault;
 use std::error::Error;
 use std::fmt;
 
-// A fault of the format or of the source.
+/// A fault of the format or of the source.
 #[derive(Clone, Copy, PartialEq, Eq, Debug)]
 pub enum OperationFault {
     Format(FormatFault),
     Source(SourceFault),
 }
 
-impl OperationFault {
-    // The number it is refused by: that of its cause.
-    pub fn number(self) -> u32
-        ensures { result ≡ operation_refusal self }
-    {
+/// A fault has the number of its cause.
+impl Refusal for OperationFault {
+    ghost refusal = { operation_refusal };
+
+    ghost known = { Prim.search rules };
+
+    fn number(self) -> u32 {
         match self {
             OperationFault::Format(cause) => cause.number(),
             OperationFault::Source(cause) => cause.number(),
@@ -53,15 +57,10 @@ impl From<DrawBitsFault> for OperationFault {
 }
 
 impl fmt::Display for OperationFault {
-    ghost output = { λ fault. Some (operation_fault_text fault) };
+    ghost output = { λ fault. Some (refused_by (operation_refusal fault)) };
 
     fn fmt<W: fmt::Write>(&self, f: &mut fmt::Formatter<W>) -> fmt::Result {
-        f.write_str(match self {
-            OperationFault::Format(FormatFault::DrawBitsOutOfRange) => "refused by 2",
-            OperationFault::Format(FormatFault::NotANumber) => "refused by 3",
-            OperationFault::Format(FormatFault::ZeroDivisor) => "refused by 4",
-            OperationFault::Source(SourceFault::Exhausted) => "refused by 8",
-        })
+        write!(f, "refused by {}", self.number())
     }
 }
 

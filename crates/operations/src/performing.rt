@@ -1,112 +1,52 @@
-// The operations of one format.
-ghost use Rattle.formats.specs.declared.split.Operation.TheVariants.{Sum, Difference, Product, Quotient};
+//! The operations of one format.
 ghost use Rattle.operations.specs.Laws.{OperationLaws};
 ghost use Rattle.operations.specs.Rounding.{Performs, SplitsOnce};
 
 use crate::faults::OperationFault;
 use crate::rounding::{Rounded, round};
 use draws::{DrawBits, Rule, Source};
-use formats::{Format, FormatFault, Operation, Split};
+use formats::{Calculation, Format, FormatFault, Split};
 
-// The format's split of the exact result. Its laws leave only one.
-fn split<F: Format>(
-    format: &F,
-    operation: Operation,
-    left: u32,
-    right: u32,
-    k: u64,
-) -> Result<Split, FormatFault>
-    ensures { SplitsOnce (F.meaning format.now) operation left right k result }
-{
-    format.split(operation, left, right, k)
+/// Stochastically rounded arithmetic: the format of its numbers, the rule that decides, and the number k of draw bits, which may
+/// be any number. A format and a rule may be borrowed.
+#[derive(Clone, Copy, Drop)]
+pub struct Arithmetic<F, R> {
+    pub format: F,
+    pub rule: R,
+    pub k: u64,
 }
 
-// The exact result of an operation on two numbers, rounded by the draw of one word.
-fn performed<F: Format, R: Rule, S: Source>(
-    format: &F,
-    operation: Operation,
-    left: u32,
-    right: u32,
-    k: u64,
-    rule: &R,
-    source: &mut S,
-) -> Result<Rounded, OperationFault>
-    ensures { Performs S.coming (R.says rule.now) (F.meaning format.now) operation left right k source.old source.new result }
-{
-    let split = split(format, operation, left, right, k)?;
-    let k = DrawBits::new(k)?;
-    Ok(round(split, k, rule, source)?)
-}
+impl<F: Format, R: Rule> Arithmetic<F, R> {
+    /// The format's split of the exact result. Its laws leave only one.
+    fn split(&self, calculation: Calculation) -> Result<Split, FormatFault>
+        ensures { SplitsOnce (F.meaning self.now.format) calculation self.now.k result }
+    {
+        self.format.split(calculation, self.k)
+    }
 
-// One operation on two numbers of a format. It takes one word, also where the exact result is a number or beyond an end. Refuses a k
-// that is not 1 to 32, a left and then a right code that is no number, a divisor of value 0, and a source with no word left.
-pub fn perform<F: Format, R: Rule, S: Source>(
-    format: &F,
-    operation: Operation,
-    left: u32,
-    right: u32,
-    k: u64,
-    rule: &R,
-    source: &mut S,
-) -> Result<Rounded, OperationFault>
-    ensures answer { Performs S.coming (R.says rule.now) (F.meaning format.now) operation left right k source.old source.new result }
-    ensures laws { OperationLaws }
-{
-    performed(format, operation, left, right, k, rule, source)
-}
+    /// The exact result of an operation on two numbers, rounded by the draw of one word. `perform` is this, with its laws.
+    fn performed<S: Source>(
+        &self,
+        calculation: Calculation,
+        source: &mut S,
+    ) -> Result<Rounded, OperationFault>
+        ensures { Performs S.coming (R.says self.now.rule) (F.meaning self.now.format) calculation self.now.k source.old source.new result }
+    {
+        let split = self.split(calculation)?;
+        let k = DrawBits::new(self.k)?;
+        Ok(round(split, k, &self.rule, source)?)
+    }
 
-// left + right, rounded.
-pub fn sum<F: Format, R: Rule, S: Source>(
-    format: &F,
-    left: u32,
-    right: u32,
-    k: u64,
-    rule: &R,
-    source: &mut S,
-) -> Result<Rounded, OperationFault>
-    ensures { Performs S.coming (R.says rule.now) (F.meaning format.now) Sum left right k source.old source.new result }
-{
-    performed(format, Operation::Sum, left, right, k, rule, source)
-}
-
-// left - right, rounded.
-pub fn difference<F: Format, R: Rule, S: Source>(
-    format: &F,
-    left: u32,
-    right: u32,
-    k: u64,
-    rule: &R,
-    source: &mut S,
-) -> Result<Rounded, OperationFault>
-    ensures { Performs S.coming (R.says rule.now) (F.meaning format.now) Difference left right k source.old source.new result }
-{
-    performed(format, Operation::Difference, left, right, k, rule, source)
-}
-
-// left * right, rounded.
-pub fn product<F: Format, R: Rule, S: Source>(
-    format: &F,
-    left: u32,
-    right: u32,
-    k: u64,
-    rule: &R,
-    source: &mut S,
-) -> Result<Rounded, OperationFault>
-    ensures { Performs S.coming (R.says rule.now) (F.meaning format.now) Product left right k source.old source.new result }
-{
-    performed(format, Operation::Product, left, right, k, rule, source)
-}
-
-// left / right, rounded.
-pub fn quotient<F: Format, R: Rule, S: Source>(
-    format: &F,
-    left: u32,
-    right: u32,
-    k: u64,
-    rule: &R,
-    source: &mut S,
-) -> Result<Rounded, OperationFault>
-    ensures { Performs S.coming (R.says rule.now) (F.meaning format.now) Quotient left right k source.old source.new result }
-{
-    performed(format, Operation::Quotient, left, right, k, rule, source)
+    /// One operation on two numbers of the format. It takes one word, also where the exact result is a number or beyond an end. Refuses
+    /// a k that is not 1 to 32, a left and then a right code that is no number, a divisor of value 0, and a source with no word left.
+    pub fn perform<S: Source>(
+        &self,
+        calculation: Calculation,
+        source: &mut S,
+    ) -> Result<Rounded, OperationFault>
+        ensures answer { Performs S.coming (R.says self.now.rule) (F.meaning self.now.format) calculation self.now.k source.old source.new result }
+        ensures laws { OperationLaws }
+    {
+        self.performed(calculation, source)
+    }
 }

@@ -1,17 +1,17 @@
-// The rounding step: a split becomes one of its two codes.
+//! The rounding step: a split becomes one of its two codes.
 ghost use Rattle.operations.specs.Rounding.{Rounds};
 
 use draws::{DrawBits, Neighbour, Rule, Source, SourceFault};
 use formats::Split;
 
-// What an operation answers: the code of the result, and whether it was clamped.
+/// What an operation answers: the code of the result, and whether it was clamped, which says nothing else of the code.
 #[derive(Clone, Copy, PartialEq, Eq, Debug)]
 pub struct Rounded {
     pub code: u32,
     pub clamped: bool,
 }
 
-// The far code where the rule says far of the next word, else the near code.
+/// The far code where the rule says far of the next word, else the near code.
 pub fn round<R: Rule, S: Source>(
     split: Split,
     k: DrawBits,
