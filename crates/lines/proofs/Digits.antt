@@ -1,10 +1,15 @@
--- What one more digit makes of a number, and that a number too large stays so. Assumes nothing.
-use Rattle.std.proofs.Common.{◌≡◌, ℕ, ◌+◌, ◌*◌, ◌<◌, ◌≤◌, eqb, ltb, leb, List, [], ◌∷◌, length, get_or, drop, Some, None, Option, sym, ap, ◌∙◌, ⊎_elim, le-mul_of_pos_right, arith}
-use Rattle.std.proofs.lemmas.List.{at_drop_more, at_drop_all}
-use Rattle.std.proofs.lemmas.Bool.{cond-true, cond-false, lt-ltb, le-ltb, le-leb, lt-leb, eq-eqb, ne_eqb, cases_lt}
+-- What one more digit makes of a number, and numbers within narrower bounds. Assumes nothing.
+use Rattle.std.proofs.Common.{◌≡◌, ℕ, Bool, true, false, cond, refl, ◌+◌, ◌-◌, ◌*◌, ◌^◌, ◌<◌, ◌≤◌, eqb, ltb, leb, List, [], ◌∷◌, length, get_or, drop, Some, None, Option, sym, ap, ◌∙◌, subst, ⊎_elim, le-mul_of_pos_right, arith}
+use Rattle.std.proofs.lemmas.List.{at_drop_more}
+use Rattle.std.proofs.lemmas.Bool.{cond-true, cond-false, lt-ltb, le-ltb, lt-leb, ne_eqb, cases_lt}
+use Rattle.std.proofs.lemmas.Bool.Decides.{nat_tests}
 use Rattle.lines.specs.Numerals.{digit_value, written, up_to, numeral}
 
 module _ (base most : ℕ) where
+  -- what is left of a text, after bytes that wrote n, decides as the whole text does
+  abbrev pub Left : ℕ → List ℕ → ℕ → Type 0
+  Left n text i = up_to most (written base n (drop i text)) ≡ up_to most (written base 0 text)
+
   -- one more digit
   one_more : (n b : ℕ) (bs : List ℕ) → digit_value b < base → written base n (b ∷ bs) ≡ written base (n * base + digit_value b) bs
   one_more n b bs h = cond-true (ltb (digit_value b) base) _ None (lt-ltb (digit_value b) base h)
@@ -16,6 +21,7 @@ module _ (base most : ℕ) where
   grown : (n d : ℕ) → d < base → n ≤ n * base + d
   grown n d h = omega (arith, le-mul_of_pos_right {m = base} n (omega arith))
 
+  -- a number that is too large stays so
   too_large : (n : ℕ) (bs : List ℕ) → most < n → up_to most (written base n bs) ≡ None
   too_large n [] h = cond-false (leb n most) (Some n) None (lt-leb n most h)
   too_large n (b ∷ bs) h =
@@ -24,37 +30,26 @@ module _ (base most : ℕ) where
       (λ g. ap (up_to most) (no_digit n b bs g))
       (cases_lt (digit_value b) base)
 
-  -- what is left of a text, after bytes that wrote n, decides as the whole text does
-  abbrev pub Left : ℕ → List ℕ → ℕ → Type 0
-  Left n text i = up_to most (written base n (drop i text)) ≡ up_to most (written base 0 text)
+  -- so a digit that makes it too large makes the text no number
+  pub ends_too_large : (n : ℕ) (text : List ℕ) (i : ℕ) → Left n text i → i < length text → (d m : ℕ) → d ≡ digit_value (get_or text i 0) → d < base → m ≡ n * base → most < m + d → None ≡ numeral base most text
+  ends_too_large n text i left h d m is digit product large =
+      let small : digit_value (get_or text i 0) < base = subst (λ v. v < base) is digit in
+      let some : eqb (length text) 0 ≡ false = ne_eqb (length text) 0 (λ e. omega arith) in
+      sym
+      (cond-false (eqb (length text) 0) None _ some
+      ∙ sym left
+      ∙ at_drop_more (λ bs. up_to most (written base n bs)) text i 0 h
+      ∙ ap (up_to most) (one_more n (get_or text i 0) (drop (i + 1) text) small)
+      ∙ too_large _ (drop (i + 1) text) (omega (arith, product, is, large)))
 
-  pub empty : (text : List ℕ) → length text ≡ 0 → None ≡ numeral base most text
-  unfolding numeral
-  empty text h = sym (cond-true (eqb (length text) 0) None _ (eq-eqb (length text) 0 h))
+-- what writes no number of 64 bits writes no smaller one, and what writes one writes a smaller one where it is no larger
+pub narrow : (base most : ℕ) (text : List ℕ) → most ≤ 2 ^ 64 - 1 → numeral base most text ≡ up_to most (numeral base (2 ^ 64 - 1) text)
+narrow base most text h = both (eqb (length text) 0) (written base 0 text)
+  where
+    kept : (o : Option ℕ) → up_to most o ≡ up_to most (up_to (2 ^ 64 - 1) o)
+    kept (Some n) = grind (arith, nat_tests)
+    kept None = refl
 
-  not_empty : (text : List ℕ) → 0 < length text → numeral base most text ≡ up_to most (written base 0 text)
-  unfolding numeral
-  not_empty text h = cond-false (eqb (length text) 0) None _ (ne_eqb (length text) 0 (λ e. omega arith))
-
-  module _ (n : ℕ) (text : List ℕ) (i : ℕ) (left : Left n text i) where
-    next : i < length text → up_to most (written base n (drop i text)) ≡ up_to most (written base n (get_or text i 0 ∷ drop (i + 1) text))
-    next h = at_drop_more (λ bs. up_to most (written base n bs)) text i 0 h
-
-    whole : i < length text → (o : Option ℕ) → up_to most (written base n (get_or text i 0 ∷ drop (i + 1) text)) ≡ o → o ≡ numeral base most text
-    whole h o e = sym e ∙ sym (next h) ∙ left ∙ sym (not_empty text (omega arith))
-
-    pub ends_at_no_digit : i < length text → base ≤ digit_value (get_or text i 0) → None ≡ numeral base most text
-    ends_at_no_digit h other = whole h None (ap (up_to most) (no_digit n (get_or text i 0) (drop (i + 1) text) other))
-
-    pub ends_too_large : i < length text → digit_value (get_or text i 0) < base → most < n * base + digit_value (get_or text i 0) → None ≡ numeral base most text
-    ends_too_large h digit large = whole h None (ap (up_to most) (one_more n (get_or text i 0) (drop (i + 1) text) digit) ∙ too_large _ (drop (i + 1) text) large)
-
-    pub goes_on : i < length text → digit_value (get_or text i 0) < base → Left (n * base + digit_value (get_or text i 0)) text (i + 1)
-    goes_on h digit = sym (ap (up_to most) (one_more n (get_or text i 0) (drop (i + 1) text) digit)) ∙ sym (next h) ∙ left
-
-    pub ends : 0 < length text → length text ≤ i → n ≤ most → Some n ≡ numeral base most text
-    ends some h small =
-        sym (cond-true (leb n most) (Some n) None (le-leb n most small))
-        ∙ sym (at_drop_all (λ bs. up_to most (written base n bs)) text i h)
-        ∙ left
-        ∙ sym (not_empty text some)
+    both : (b : Bool) (o : Option ℕ) → cond b None (up_to most o) ≡ up_to most (cond b None (up_to (2 ^ 64 - 1) o))
+    both true o = refl
+    both false o = kept o

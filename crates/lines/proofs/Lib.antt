@@ -1,2 +1,5 @@
-mod Digits
-mod Splits
+pub mod Afters
+pub mod Digits
+pub mod Spelled
+pub mod Splits
+pub mod WordLists

@@ -1,23 +1,45 @@
 -- The first field of a text, and what is left after it. Assumes nothing.
-use Rattle.std.proofs.Common.{◌≡◌, ℕ, suc, ◌+◌, true, false, not, eqb, List, [], ◌∷◌, length, take, drop, sym, refl, ap, ◌∙◌, subst, ⊎_elim, one-add, arith}
-use Rattle.std.proofs.lemmas.Bool.{cond-true, cond-false, cases_Bool, ne_eqb, not_from_true, not_from_false}
-use Rattle.std.specs.List.{prefix_len}
-use Rattle.lines.specs.declared.texts.Run.TheVariants.{Blanks, Field}
-use Rattle.lines.specs.Texts.{blank, in_run}
-use Rattle.lines.specs.Fields.{field_ends, onto, fields, first, others, is_end}
+use Rattle.std.proofs.Common.{◌≡◌, ℕ, Bool, suc, ◌+◌, ◌<◌, ◌≤◌, true, false, not, ltb, List, [], ◌∷◌, length, take, drop, Some, None, Option, sym, refl, ap, ◌∙◌, subst, ⊎_elim, one-add, drop-cons, arith}
+use Rattle.std.specs.List.{position, position_or_len}
+use Rattle.std.specs.Option.{unwrap_or}
+use Rattle.std.proofs.lemmas.Bool.{cond-true, cond-false, cases_Bool, cases_lt, lt-ltb, le-ltb, not_from_true, not_from_false, not-true}
+use Rattle.std.proofs.lemmas.Bool.Decides.{nat_tests}
+use Rattle.std.proofs.lemmas.List.{drop_all}
+use Rattle.std.proofs.lemmas.List.Sums.{passes_at_first, prefix_len-le-length}
+use Rattle.lines.specs.Texts.{blank}
+use Rattle.lines.specs.Fields.{field_ends, onto, fields}
+
+-- whether a field may go on with a byte
+abbrev pub goes_on : ℕ → Bool
+goes_on b = not (blank b)
 
 -- how many blanks a text begins with, and how many other bytes
 abbrev blanks : List ℕ → ℕ
-blanks text = prefix_len (in_run Blanks) text
+blanks text = position_or_len goes_on text
 
 abbrev bytes : List ℕ → ℕ
-bytes text = prefix_len (in_run Field) text
+bytes text = position_or_len blank text
 
-blanks_more : (b : ℕ) (bs : List ℕ) → blank b ≡ true → blanks (b ∷ bs) ≡ suc (blanks bs)
-blanks_more b bs e = cond-true (blank b) (1 + blanks bs) 0 e ∙ one-add (blanks bs)
+-- where the first byte stands that passes a test
+module _ (test : ℕ → Bool) (text : List ℕ) where
+  placed : position_or_len test text < length text → position test text ≡ Some (position_or_len test text)
+  placed l = cond-true (ltb (position_or_len test text) (length text)) _ None (lt-ltb (position_or_len test text) (length text) l)
 
-blanks_none : (b : ℕ) (bs : List ℕ) → blank b ≡ false → blanks (b ∷ bs) ≡ 0
-blanks_none b bs e = cond-false (blank b) (1 + blanks bs) 0 e
+  unplaced : length text ≤ position_or_len test text → position test text ≡ None
+  unplaced g = cond-false (ltb (position_or_len test text) (length text)) _ None (le-ltb (position_or_len test text) (length text) g)
+
+-- the first field ends at the first blank, or with the text
+ends : (text : List ℕ) → unwrap_or (position blank text) (length text) ≡ bytes text
+ends text = grind (arith, nat_tests, prefix_len-le-length (λ b. not (blank b)) text)
+
+past_blanks : (text : List ℕ) → fields text ≡ fields (drop (blanks text) text)
+unfolding fields
+past_blanks [] = refl
+past_blanks (b ∷ bs) =
+    ⊎_elim
+    (λ e. cond-true (blank b) (fields bs) _ e ∙ past_blanks bs ∙ sym (ap (λ n. fields (drop n (b ∷ bs))) (cond-true (not (goes_on b)) (1 + blanks bs) 0 (grind (arith, e)) ∙ one-add (blanks bs))))
+    (λ e. sym (ap (λ n. fields (drop n (b ∷ bs))) (cond-false (not (goes_on b)) (1 + blanks bs) 0 (grind (arith, e)))))
+    (cases_Bool (blank b))
 
 field_more : (b : ℕ) (bs : List ℕ) → blank b ≡ false → bytes (b ∷ bs) ≡ suc (bytes bs)
 field_more b bs e = cond-true (not (blank b)) (1 + bytes bs) 0 (not_from_false (blank b) e) ∙ one-add (bytes bs)
@@ -25,10 +47,6 @@ field_more b bs e = cond-true (not (blank b)) (1 + bytes bs) 0 (not_from_false (
 field_none : (bs : List ℕ) → field_ends bs ≡ true → bytes bs ≡ 0
 field_none [] e = refl
 field_none (b ∷ bs) e = cond-false (not (blank b)) (1 + bytes bs) 0 (not_from_true (blank b) e)
-
-past_blank : (b : ℕ) (bs : List ℕ) → blank b ≡ true → fields (b ∷ bs) ≡ fields bs
-unfolding fields
-past_blank b bs e = cond-true (blank b) (fields bs) _ e
 
 last_byte : (b : ℕ) (bs : List ℕ) → blank b ≡ false → field_ends bs ≡ true → fields (b ∷ bs) ≡ (b ∷ []) ∷ fields bs
 unfolding fields
@@ -54,23 +72,24 @@ begins b (d ∷ bs) e =
     (λ f. subst (First (b ∷ d ∷ bs)) (sym (field_more b (d ∷ bs) e)) (inner_byte b (d ∷ bs) e f ∙ ap (onto b) (begins d bs f)))
     (cases_Bool (blank d))
 
--- what is left past the blanks that a text begins with
-abbrev pub past : List ℕ → List ℕ
-past text = drop (blanks text) text
-
--- the first field of a text, and what is left, are those of what is left past its blanks
-pub record Cuts (text rest : List ℕ) : Type 0 where
-  pub field : take (bytes rest) rest ≡ first (fields text)
-  pub left : fields (drop (bytes rest) rest) ≡ others (fields text)
-  pub none : is_end (fields text) ≡ eqb (length (take (bytes rest) rest)) 0
-
-pub cuts : (text : List ℕ) → Cuts text (past text)
+-- a text of blanks alone has no field
+pub none : (text : List ℕ) → position goes_on text ≡ None → fields text ≡ []
 unfolding fields
-cuts [] = record { field = refl; left = refl; none = refl }
-cuts (b ∷ bs) =
+none text e =
     ⊎_elim
-    (λ e. subst (Cuts (b ∷ bs)) (sym (ap (λ n. drop n (b ∷ bs)) (blanks_more b bs e)))
-    (record { field = (cuts bs).field ∙ ap first (sym (past_blank b bs e)); left = (cuts bs).left ∙ ap others (sym (past_blank b bs e)); none = ap is_end (past_blank b bs e) ∙ (cuts bs).none }))
-    (λ e. subst (Cuts (b ∷ bs)) (sym (ap (λ n. drop n (b ∷ bs)) (blanks_none b bs e)))
-    (record { field = ap first (sym (begins b bs e)); left = ap others (sym (begins b bs e)); none = ap is_end (begins b bs e) ∙ sym (ap (λ n. eqb (length (take n (b ∷ bs))) 0) (field_more b bs e) ∙ ne_eqb (length (take (suc (bytes bs)) (b ∷ bs))) 0 (λ z. omega arith)) }))
-    (cases_Bool (blank b))
+    (λ l. let some = placed goes_on text l in (cc))
+    (λ g. past_blanks text ∙ ap fields (drop_all (blanks text) text g))
+    (cases_lt (blanks text) (length text))
+
+-- from its first byte on that is no blank, a text begins with its first field
+pub found : (text rest field left : List ℕ) (start : ℕ) (stop : Option ℕ) (end : ℕ) → Some start ≡ position goes_on text → rest ≡ drop start text → stop ≡ position blank rest → end ≡ unwrap_or stop (length rest) → field ≡ take end rest → left ≡ drop end rest → fields text ≡ field ∷ fields left
+found text rest field left start stop end e r s n f l =
+    ⊎_elim
+    (λ (some : blanks text < length text).
+    let first = placed goes_on text some in
+    let at : rest ≡ drop (blanks text) text = cc in
+    let parts = drop-cons text (blanks text) 0 some in
+    let starts : First rest (bytes rest) = subst (λ bs. First bs (bytes bs)) (sym (at ∙ parts)) (begins _ _ (not-true _ (passes_at_first goes_on text 0 some))) in
+    past_blanks text ∙ ap fields (sym at) ∙ starts ∙ rw (f, l, n, s, ends rest))
+    (λ all. let no = unplaced goes_on text all in (cc))
+    (cases_lt (blanks text) (length text))

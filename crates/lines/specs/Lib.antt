@@ -1,7 +1,6 @@
 pub mod Texts
 pub mod Numerals
 pub mod Fields
-pub mod Cursor
 pub mod Names
 pub mod FormatNames
 pub mod Queries

@@ -1,5 +1,6 @@
 -- What a line says. Assumes nothing.
 use Rattle.std.specs.Prelude.{◌≡◌, ℕ, suc, Bool, true, false, cond, ◌||◌, List, Some, None, Ok, Err, codes, Option, Result, ◌==◌, slice_index}
+use Rattle.std.specs.Str.{bytes_eq}
 use Rattle.lines.specs.declared.answer.Answer.{Answer}
 use Rattle.lines.specs.declared.query.Query.{Query}
 use Rattle.lines.specs.declared.vector.Malformed.{Malformed}
@@ -8,7 +9,7 @@ use Rattle.lines.specs.declared.vector.Vector.{Vector}
 use Rattle.lines.specs.Answers.{answer_read, answer_fields}
 use Rattle.lines.specs.Fields.{fields, after, at, is_end}
 use Rattle.lines.specs.Queries.{query_read, more_fields}
-use Rattle.lines.specs.Texts.{same, then}
+use Rattle.lines.specs.Texts.{then}
 
 -- a line that says nothing: `#` is its first byte, or it has no field
 abbrev pub passed_over : List ℕ → Bool
@@ -16,7 +17,7 @@ passed_over line = slice_index line 0 == 35 || is_end (fields line)
 
 -- a query, and `->` after it
 abbrev pub question : List (List ℕ) → Option Query
-question fs = then (query_read fs) (λ query. cond (same (at (suc (more_fields query)) fs) (codes "->")) (Some query) None)
+question fs = then (query_read fs) (λ query. cond (bytes_eq (at (suc (more_fields query)) fs) (codes "->")) (Some query) None)
 
 -- the fields after the `->` that follows a query
 abbrev pub after_arrow : Query → List (List ℕ) → List (List ℕ)

@@ -1,6 +1,7 @@
 -- The numbers that texts write. Assumes nothing.
 use Rattle.std.specs.Prelude.{ℕ, ◌+◌, ◌-◌, ◌*◌, ◌^◌, cond, ◌&&◌, List, [], ◌∷◌, length, drop, ℤ, pos, neg_ℤ, Some, None, Option, ◌==◌, nat_le, nat_lt, slice_index}
-use Rattle.lines.specs.Texts.{same, then}
+use Rattle.std.specs.Str.{bytes_eq}
+use Rattle.lines.specs.Texts.{then}
 
 -- what a byte is as a digit: 0 to 9, A to F or a to f, and 16 where it is none
 abbrev pub digit_value : ℕ → ℕ
@@ -18,7 +19,7 @@ up_to most (Some n) = cond (nat_le n most) (Some n) None
 up_to most None = None
 
 -- the number that a text of one digit or more writes, if it is at most `most`
-unfoldable pub numeral : ℕ → ℕ → List ℕ → Option ℕ
+abbrev pub numeral : ℕ → ℕ → List ℕ → Option ℕ
 numeral base most text = cond (length text == 0) None (up_to most (written base 0 text))
 
 -- a decimal
@@ -42,4 +43,4 @@ after_0x text = cond (slice_index text 0 == 48 && slice_index text 1 == 120) (nu
 
 -- a hexadecimal, or none where its name stands in its place
 abbrev pub code_or : List ℕ → List ℕ → Option (Option ℕ)
-code_or none text = cond (same text none) (Some None) (then (after_0x text) (λ code. Some (Some code)))
+code_or none text = cond (bytes_eq text none) (Some None) (then (after_0x text) (λ code. Some (Some code)))

@@ -1,21 +1,15 @@
-// The answers that a line expects.
+//! The answers that a line expects.
 use draws::Neighbour;
+use formats::Split;
+use operations::Rounded;
 use std::fmt;
 
-// The answer to one question: a result and whether it was clamped, a split, the codes next to a code, the ends of a
-// format, what a rule said, the quotient of the unit, words of the generator, or the number of a refusal.
+/// The answer to one question: a result and whether it was clamped, a split, the codes next to a code, the ends of a
+/// format, what a rule said, the quotient of the unit, words of the generator, or the number of a refusal.
 #[derive(Clone, Copy, PartialEq, Debug)]
 pub enum Answer {
-    Rounded {
-        code: u32,
-        clamped: bool,
-    },
-    Split {
-        near: u32,
-        far: u32,
-        count: u64,
-        clamped: bool,
-    },
+    Rounded(Rounded),
+    Split(Split),
     Next {
         above: Option<u32>,
         below: Option<u32>,
@@ -26,11 +20,12 @@ pub enum Answer {
     },
     Said(Neighbour),
     Quotient(i64),
-    Words(u32, u32, u32, u32, u32, u32, u32, u32),
+    Words([u32; 8]),
+    /// The number as it stands in the line, where any may stand.
     Refused(u64),
 }
 
-// A code as it stands in a line, and `absent` for one that is not there.
+/// A code as it stands in a line, and `absent` for one that is not there.
 #[derive(Clone, Copy)]
 struct Code(Option<u32>);
 
@@ -43,21 +38,18 @@ impl fmt::Display for Code {
     }
 }
 
-// As it stands in a line after `->`.
+/// As it stands in a line after `->`.
 impl fmt::Display for Answer {
     fn fmt<W: fmt::Write>(&self, f: &mut fmt::Formatter<W>) -> fmt::Result {
         match *self {
-            Answer::Rounded { code, clamped } => {
-                let clamped = u8::from(clamped);
+            Answer::Rounded(rounded) => {
+                let code = rounded.code;
+                let clamped = u8::from(rounded.clamped);
                 write!(f, "{code:#06x} {clamped}")
             }
-            Answer::Split {
-                near,
-                far,
-                count,
-                clamped,
-            } => {
-                let clamped = u8::from(clamped);
+            Answer::Split(split) => {
+                let (near, far, count) = split.parts;
+                let clamped = u8::from(split.clamped);
                 write!(f, "{near:#06x} {far:#06x} {count} {clamped}")
             }
             Answer::Next { above, below } => {
@@ -66,13 +58,16 @@ impl fmt::Display for Answer {
                 write!(f, "{above} {below}")
             }
             Answer::Ends { least, greatest } => write!(f, "{least:#06x} {greatest:#06x}"),
-            Answer::Said(Neighbour::Near) => f.write_str("near"),
-            Answer::Said(Neighbour::Far) => f.write_str("far"),
+            Answer::Said(neighbour) => write!(f, "{neighbour}"),
             Answer::Quotient(quotient) => write!(f, "{quotient}"),
-            Answer::Words(a, b, c, d, e, g, h, i) => write!(
-                f,
-                "{a:#010x} {b:#010x} {c:#010x} {d:#010x} {e:#010x} {g:#010x} {h:#010x} {i:#010x}"
-            ),
+            Answer::Words(words) => {
+                let mut blank = "";
+                for word in words {
+                    write!(f, "{blank}{word:#010x}")?;
+                    blank = " ";
+                }
+                Ok(())
+            }
             Answer::Refused(number) => write!(f, "refused {number}"),
         }
     }

@@ -1,42 +1,52 @@
-// The names of formats.
-ghost use Rattle.std.specs.Prelude.{◌≡◌, slice_index};
-ghost use Rattle.lines.specs.FormatNames.{sign_bits, format_named};
+//! The names of formats.
+ghost use Rattle.std.specs.Prelude.{◌≡◌, position};
+ghost use Rattle.lines.specs.FormatNames.{sizes_written, format_named};
+ghost use Rattle.lines.specs.Texts.{dot};
 
 use crate::numerals::decimal;
-use crate::texts::{Run, cut, tail};
 
-// A format by its name: fixed point by how many sign bits, integer bits and fractional bits it has.
+/// How many sign bits, integer bits and fractional bits fixed point has.
+#[derive(Clone, Copy)]
+pub struct Sizes {
+    pub sign: u64,
+    pub integer: u64,
+    pub fraction: u64,
+}
+
+/// A format by its name.
 #[derive(Clone, Copy)]
 pub enum FormatName {
-    Fixed {
-        sign: u64,
-        integer: u64,
-        fraction: u64,
-    },
+    Fixed(Sizes),
 }
 
-// How many sign bits the first letter of a name stands for: `s` for one, `u` for none.
-fn sign(name: &[u8]) -> Option<u64>
-    ensures { result ≡ sign_bits (slice_index name.now 0) }
+/// Where the first dot of a text stands.
+fn first_dot(text: &[u8]) -> Option<usize>
+    ensures { result ≡ position dot text.now }
 {
-    match name {
-        [b's', ..] => Some(1),
-        [b'u', ..] => Some(0),
-        _ => None,
-    }
+    text.iter().position(|b| *b == b'.')
 }
 
-// The format of a name: a letter for the sign, then the integer bits, a dot and the fractional bits, as in `s8.7`.
-pub(crate) fn format(name: &[u8]) -> Option<FormatName>
-    ensures { result ≡ format_named name.now }
+/// The sizes after the letter of a name: the integer bits, a dot and the fractional bits.
+fn read_sizes(sign: u64, bits: &[u8]) -> Option<Sizes>
+    ensures { result ≡ sizes_written sign bits.now }
 {
-    let sign = sign(name)?;
-    let (integer, dotted) = cut(tail(name), Run::BeforeDot);
-    let integer = decimal(integer)?;
-    let fraction = decimal(tail(dotted))?;
-    Some(FormatName::Fixed {
+    let dot = first_dot(bits)?;
+    let integer = decimal(&bits[..dot])?;
+    let fraction = decimal(&bits[dot + 1..])?;
+    Some(Sizes {
         sign,
         integer,
         fraction,
     })
+}
+
+/// The format of a name: `s` for one sign bit or `u` for none, and the other sizes, as in `s8.7`.
+pub(crate) fn format(name: &[u8]) -> Option<FormatName>
+    ensures { result ≡ format_named name.now }
+{
+    match name {
+        [b's', bits @ ..] => read_sizes(1, bits).map(FormatName::Fixed),
+        [b'u', bits @ ..] => read_sizes(0, bits).map(FormatName::Fixed),
+        _ => None,
+    }
 }

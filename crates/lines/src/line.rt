@@ -1,6 +1,5 @@
-// Reading one line.
+//! Reading one line.
 ghost use Rattle.std.specs.Prelude.{◌≡◌};
-ghost use Rattle.lines.specs.Cursor.{to_come};
 ghost use Rattle.lines.specs.Lines.{passed_over, Asked, expectation, LineSays};
 
 use crate::answer::Answer;
@@ -8,44 +7,32 @@ use crate::answer_fields::read_answer;
 use crate::fields::Fields;
 use crate::query::Query;
 use crate::query_fields::read_query;
-use crate::texts::is;
 use crate::vector::{Malformed, Vector};
 
-// Whether a line says nothing: a comment, or blanks alone.
+/// Whether a line says nothing: a comment, or blanks alone.
 fn is_passed_over(line: &[u8]) -> bool
     ensures { result ≡ passed_over line.now }
 {
-    match line {
-        [b'#', ..] => true,
-        _ => Fields::new(line).next_field().is_empty(),
-    }
+    matches!(line, [b'#', ..]) || Fields::new(line).next().is_none()
 }
 
-// The query, and `->` after it.
+/// The query, and `->` after it.
 fn asked(line: &mut Fields) -> Option<Query>
-    ensures { Asked (to_come line.old) (to_come line.new) result }
+    ensures { Asked line.old line.new result }
 {
     let query = read_query(line)?;
-    if is(line.next_field(), b"->") {
-        Some(query)
-    } else {
-        None
-    }
+    matches!(line.next()?, b"->").then_some(query)
 }
 
-// The answer to a query, and nothing after it.
+/// The answer to a query, and nothing after it.
 fn expected(query: Query, line: &mut Fields) -> Option<Answer>
-    ensures { result ≡ expectation query (to_come line.old) }
+    ensures { result ≡ expectation query line.old }
 {
     let answer = read_answer(query, line)?;
-    if line.next_field().is_empty() {
-        Some(answer)
-    } else {
-        None
-    }
+    line.next().is_none().then_some(answer)
 }
 
-// The vector of a line, or none where the line says nothing.
+/// The vector of a line, or none where the line says nothing.
 pub fn parse_line(line: &[u8]) -> Result<Option<Vector>, Malformed>
     ensures { LineSays line.now result }
 {
@@ -53,11 +40,7 @@ pub fn parse_line(line: &[u8]) -> Result<Option<Vector>, Malformed>
         return Ok(None);
     }
     let mut fields = Fields::new(line);
-    let Some(query) = asked(&mut fields) else {
-        return Err(Malformed::Question);
-    };
-    let Some(expected) = expected(query, &mut fields) else {
-        return Err(Malformed::Expectation);
-    };
+    let query = asked(&mut fields).ok_or(Malformed::Question)?;
+    let expected = expected(query, &mut fields).ok_or(Malformed::Expectation)?;
     Ok(Some(Vector { query, expected }))
 }

@@ -1,85 +1,88 @@
-// Reading what a line asks.
-ghost use Rattle.lines.specs.Cursor.{to_come};
+//! Reading what a line asks.
+ghost use Rattle.std.specs.Prelude.{◌≡◌};
 ghost use Rattle.lines.specs.Fields.{others};
-ghost use Rattle.lines.specs.Queries.{operate_query, split_query, next_query, size_query, rule_query, unit_query, generator_query, query_read, Asks};
+ghost use Rattle.lines.specs.Queries.{kind_named, calculation_read, operate_query, split_query, next_query, size_query, rule_query, unit_query, generator_query, query_read, Asks, Reads};
 
 use crate::fields::Fields;
-use crate::format_names::{FormatName, format};
+use crate::format_names::{Sizes, format};
 use crate::names::{mode, operation, rule};
 use crate::numerals::{code_unless, decimal, hexadecimal, short_decimal, signed_decimal};
 use crate::query::Query;
-use crate::texts::is;
+use formats::Calculation;
 
-// An operation of a format under a rule: `K RULE OP A B WORD`.
-fn operate(format: FormatName, line: &mut Fields) -> Option<Query>
-    ensures { Asks (operate_query format (to_come line.old)) (to_come line.old) (to_come line.new) result }
+/// An operation and the codes that it is asked of: `OP A B`.
+fn calculation(line: &mut Fields) -> Option<Calculation>
+    ensures { Reads 3 calculation_read line.old line.new result }
 {
-    let k = decimal(line.next_field())?;
-    let rule = rule(line.next_field())?;
-    let operation = operation(line.next_field())?;
-    let left = hexadecimal(line.next_field())?;
-    let right = hexadecimal(line.next_field())?;
-    let word = code_unless(line.next_field(), b"-")?;
+    let operation = operation(line.next()?)?;
+    let left = hexadecimal(line.next()?)?;
+    let right = hexadecimal(line.next()?)?;
+    Some(operation.of(left, right))
+}
+
+/// An operation of the format of a name under a rule: `K RULE OP A B WORD`.
+fn operate(name: &[u8], line: &mut Fields) -> Option<Query>
+    ensures { Asks (operate_query name.now line.old) line.old line.new result }
+{
+    let format = format(name)?;
+    let k = decimal(line.next()?)?;
+    let rule = rule(line.next()?)?;
+    let calculation = calculation(line)?;
+    let word = code_unless(line.next()?, b"-")?;
     Some(Query::Operate {
         format,
         k,
         rule,
-        operation,
-        left,
-        right,
+        calculation,
         word,
     })
 }
 
-// The split of the exact result of an operation: `FORMAT K OP A B`.
+/// The split of the exact result of an operation: `FORMAT K OP A B`.
 fn split(line: &mut Fields) -> Option<Query>
-    ensures { Asks (split_query (to_come line.old)) (to_come line.old) (to_come line.new) result }
+    ensures { Asks (split_query line.old) line.old line.new result }
 {
-    let format = format(line.next_field())?;
-    let k = decimal(line.next_field())?;
-    let operation = operation(line.next_field())?;
-    let left = hexadecimal(line.next_field())?;
-    let right = hexadecimal(line.next_field())?;
+    let format = format(line.next()?)?;
+    let k = decimal(line.next()?)?;
+    let calculation = calculation(line)?;
     Some(Query::Split {
         format,
         k,
-        operation,
-        left,
-        right,
+        calculation,
     })
 }
 
-// The numbers next to a code: `FORMAT CODE`.
-fn next(line: &mut Fields) -> Option<Query>
-    ensures { Asks (next_query (to_come line.old)) (to_come line.old) (to_come line.new) result }
+/// The numbers next to a code: `FORMAT CODE`.
+fn neighbours(line: &mut Fields) -> Option<Query>
+    ensures { Asks (next_query line.old) line.old line.new result }
 {
-    let format = format(line.next_field())?;
-    let code = hexadecimal(line.next_field())?;
+    let format = format(line.next()?)?;
+    let code = hexadecimal(line.next()?)?;
     Some(Query::Next { format, code })
 }
 
-// The ends of a fixed-point format: `S I P`.
+/// The ends of a fixed-point format: `S I P`.
 fn size(line: &mut Fields) -> Option<Query>
-    ensures { Asks (size_query (to_come line.old)) (to_come line.old) (to_come line.new) result }
+    ensures { Asks (size_query line.old) line.old line.new result }
 {
-    let sign = decimal(line.next_field())?;
-    let integer = decimal(line.next_field())?;
-    let fraction = decimal(line.next_field())?;
-    Some(Query::Size {
+    let sign = decimal(line.next()?)?;
+    let integer = decimal(line.next()?)?;
+    let fraction = decimal(line.next()?)?;
+    Some(Query::Size(Sizes {
         sign,
         integer,
         fraction,
-    })
+    }))
 }
 
-// What a rule says: `RULE K R DRAW`.
+/// What a rule says: `RULE K R DRAW`.
 fn decision(line: &mut Fields) -> Option<Query>
-    ensures { Asks (rule_query (to_come line.old)) (to_come line.old) (to_come line.new) result }
+    ensures { Asks (rule_query line.old) line.old line.new result }
 {
-    let rule = rule(line.next_field())?;
-    let k = decimal(line.next_field())?;
-    let count = decimal(line.next_field())?;
-    let draw = decimal(line.next_field())?;
+    let rule = rule(line.next()?)?;
+    let k = decimal(line.next()?)?;
+    let count = decimal(line.next()?)?;
+    let draw = decimal(line.next()?)?;
     Some(Query::Rule {
         rule,
         k,
@@ -88,15 +91,15 @@ fn decision(line: &mut Fields) -> Option<Query>
     })
 }
 
-// A rounding of the unit: `MODE N K X WORD`.
+/// A rounding of the unit: `MODE N K X WORD`.
 fn rounding(line: &mut Fields) -> Option<Query>
-    ensures { Asks (unit_query (to_come line.old)) (to_come line.old) (to_come line.new) result }
+    ensures { Asks (unit_query line.old) line.old line.new result }
 {
-    let mode = mode(line.next_field())?;
-    let n = decimal(line.next_field())?;
-    let k = decimal(line.next_field())?;
-    let x = signed_decimal(line.next_field())?;
-    let word = code_unless(line.next_field(), b"-")?;
+    let mode = mode(line.next()?)?;
+    let n = decimal(line.next()?)?;
+    let k = decimal(line.next()?)?;
+    let x = signed_decimal(line.next()?)?;
+    let word = code_unless(line.next()?, b"-")?;
     Some(Query::Unit {
         mode,
         n,
@@ -106,32 +109,54 @@ fn rounding(line: &mut Fields) -> Option<Query>
     })
 }
 
-// The first words of the generator: `SEED`.
+/// The first words of the generator: `SEED`.
 fn generator(line: &mut Fields) -> Option<Query>
-    ensures { Asks (generator_query (to_come line.old)) (to_come line.old) (to_come line.new) result }
+    ensures { Asks (generator_query line.old) line.old line.new result }
 {
-    let seed = short_decimal(line.next_field())?;
+    let seed = short_decimal(line.next()?)?;
     Some(Query::Generator { seed })
 }
 
-// What the next fields of a line ask, by the first of them.
-pub(crate) fn read_query(line: &mut Fields) -> Option<Query>
-    ensures { Asks (query_read (to_come line.old)) (others (to_come line.old)) (to_come line.new) result }
+/// What a line asks, by its first field. It stands between the field and the readers, so that what is proved of reading has a
+/// case for each kind, and not one for each byte of each word.
+#[derive(Clone, Copy)]
+enum Kind {
+    Operate,
+    Split,
+    Next,
+    Size,
+    Rule,
+    Unit,
+    Generator,
+}
+
+/// What a first field asks: any other than these words is to be a format, in which an operation is asked.
+fn kind_of(name: &[u8]) -> Kind
+    ensures { result ≡ kind_named name.now }
 {
-    let word = line.next_field();
-    if is(word, b"split") {
-        split(line)
-    } else if is(word, b"next") {
-        next(line)
-    } else if is(word, b"size") {
-        size(line)
-    } else if is(word, b"rule") {
-        decision(line)
-    } else if is(word, b"unit") {
-        rounding(line)
-    } else if is(word, b"lcg") {
-        generator(line)
-    } else {
-        operate(format(word)?, line)
+    match name {
+        b"split" => Kind::Split,
+        b"next" => Kind::Next,
+        b"size" => Kind::Size,
+        b"rule" => Kind::Rule,
+        b"unit" => Kind::Unit,
+        b"lcg" => Kind::Generator,
+        _ => Kind::Operate,
+    }
+}
+
+/// What the next fields of a line ask, by the first of them.
+pub(crate) fn read_query(line: &mut Fields) -> Option<Query>
+    ensures { Asks (query_read line.old) (others line.old) line.new result }
+{
+    let name = line.next()?;
+    match kind_of(name) {
+        Kind::Operate => operate(name, line),
+        Kind::Split => split(line),
+        Kind::Next => neighbours(line),
+        Kind::Size => size(line),
+        Kind::Rule => decision(line),
+        Kind::Unit => rounding(line),
+        Kind::Generator => generator(line),
     }
 }

@@ -1,4 +1,4 @@
-// One test vector, and what is wrong with a line that has none.
+//! One test vector, and what is wrong with a line that has none.
 ghost use Rattle.std.specs.Prelude.{Some};
 ghost use Rattle.lines.specs.Lines.{malformed_text};
 
@@ -7,14 +7,14 @@ use crate::query::Query;
 use std::error::Error;
 use std::fmt;
 
-// A question, and the answer that is expected.
+/// A question, and the answer that is expected.
 #[derive(Clone, Copy)]
 pub struct Vector {
     pub query: Query,
     pub expected: Answer,
 }
 
-// What cannot be read: the question up to `->`, or the answer after it.
+/// What cannot be read: the question up to `->`, or the answer after it.
 #[derive(Clone, Copy, PartialEq, Eq, Debug)]
 pub enum Malformed {
     Question,
