@@ -1,30 +1,24 @@
-// The answer to a question.
-ghost use Rattle.std.specs.Prelude.{IfOk};
+//! The answer to a question.
 ghost use Rattle.fixed.specs.Sized.{format_of};
-ghost use Rattle.answers.specs.Answers.{Answers, EndsAnswer, Names};
+ghost use Rattle.answers.specs.Answers.{told, Answers, EndsAnswer, Names};
 
 use crate::operated::{neighbours, operated, split};
-use crate::others::{first_words, said, unit_rounded};
-use fixed::Fixed;
+use crate::refused::Refused;
+use crate::unit_and_generator::{first_words, unit_rounded};
+use draws::Rule;
+use fixed::{Fixed, SizesFault};
 use lines::{Answer, FormatName, Query};
-use std::alloc::{AllocError, Global};
+use operations::Arithmetic;
 
-// The format of a name, or its refusal.
-fn named(format: FormatName) -> Result<Fixed, Answer>
+/// The format of a name.
+fn named(format: FormatName) -> Result<Fixed, SizesFault>
     ensures { Names format result }
 {
-    let FormatName::Fixed {
-        sign,
-        integer,
-        fraction,
-    } = format;
-    match Fixed::new(sign, integer, fraction) {
-        Ok(format) => Ok(format),
-        Err(fault) => Err(Answer::Refused(u64::from(fault.number()))),
-    }
+    let FormatName::Fixed(sizes) = format;
+    Fixed::new(sizes.sign, sizes.integer, sizes.fraction)
 }
 
-// LEAST GREATEST of a format.
+/// LEAST GREATEST of a format.
 fn ends(format: Fixed) -> Answer
     ensures { EndsAnswer (format_of format) result }
 {
@@ -34,64 +28,49 @@ fn ends(format: Fixed) -> Answer
     }
 }
 
-// The right answer to a question.
-pub fn answer(heap: Global, query: Query) -> Result<Answer, AllocError>
-    ensures { IfOk result (Answers query) }
+/// The right answer to a question, or its refusal.
+fn answered(query: Query) -> Result<Answer, Refused>
+    ensures { Answers query (told result) }
 {
-    Ok(match query {
+    // a question is a value that is read from a line
+    match query {
         Query::Operate {
             format,
             k,
             rule,
-            operation,
-            left,
-            right,
+            calculation,
             word,
-        } => match named(format) {
-            Ok(format) => operated(heap, &format, operation, left, right, k, rule, word)?,
-            Err(refused) => refused,
-        },
+        } => {
+            let format = named(format)?;
+            operated(&Arithmetic { format, rule, k }, calculation, word)
+        }
         Query::Split {
             format,
             k,
-            operation,
-            left,
-            right,
-        } => match named(format) {
-            Ok(format) => split(&format, operation, left, right, k),
-            Err(refused) => refused,
-        },
-        Query::Next { format, code } => match named(format) {
-            Ok(format) => neighbours(&format, code),
-            Err(refused) => refused,
-        },
-        Query::Size {
-            sign,
-            integer,
-            fraction,
-        } => {
-            match named(FormatName::Fixed {
-                sign,
-                integer,
-                fraction,
-            }) {
-                Ok(format) => ends(format),
-                Err(refused) => refused,
-            }
-        }
+            calculation,
+        } => split(&named(format)?, k, calculation),
+        Query::Next { format, code } => neighbours(&named(format)?, code),
+        Query::Size(sizes) => Ok(ends(named(FormatName::Fixed(sizes))?)),
         Query::Rule {
             rule,
             k,
             count,
             draw,
-        } => said(rule, k, count, draw),
+        } => Ok(Answer::Said(rule.choose(k, count, draw))),
         Query::Unit {
             mode,
             n,
             k,
             x,
             word,
-        } => unit_rounded(heap, mode, n, k, x, word)?,
-        Query::Generator { seed } => first_words(seed),
-    })
+        } => unit_rounded(mode, n, k, x, word),
+        Query::Generator { seed } => Ok(first_words(seed)),
+    }
+}
+
+/// The right answer to a question.
+pub fn answer(query: Query) -> Answer
+    ensures { Answers query result }
+{
+    answered(query).unwrap_or_else(Answer::from)
 }

@@ -1,12 +1,11 @@
-// Comparing the answer to a line's question with the answer that it expects.
-ghost use Rattle.std.specs.Prelude.{IfOk};
+//! Comparing the answer to a line's question with the answer that it expects.
 ghost use Rattle.answers.specs.Comparing.{Compares};
 
 use crate::answering::answer;
 use lines::{Answer, Malformed, parse_line};
-use std::alloc::{AllocError, Global};
 
-// What became of a line: it says nothing, its expected answer is the right one, another answer is, or it cannot be read.
+/// What became of a line: it says nothing, its expected answer is the right one, another answer is, or it cannot be read. A
+/// report counts each of the four apart.
 #[derive(Clone, Copy, PartialEq, Debug)]
 pub enum Outcome {
     PassedOver,
@@ -15,19 +14,19 @@ pub enum Outcome {
     Malformed(Malformed),
 }
 
-// Whether a line expects the right answer.
-pub fn compare(heap: Global, line: &[u8]) -> Result<Outcome, AllocError>
-    ensures { IfOk result (Compares line.now) }
+/// Whether a line expects the right answer.
+pub fn compare(line: &[u8]) -> Outcome
+    ensures { Compares line.now result }
 {
     let vector = match parse_line(line) {
         Ok(Some(vector)) => vector,
-        Ok(None) => return Ok(Outcome::PassedOver),
-        Err(fault) => return Ok(Outcome::Malformed(fault)),
+        Ok(None) => return Outcome::PassedOver,
+        Err(fault) => return Outcome::Malformed(fault),
     };
-    let came = answer(heap, vector.query)?;
-    if came == vector.expected {
-        Ok(Outcome::Agrees)
+    let right = answer(vector.query);
+    if right == vector.expected {
+        Outcome::Agrees
     } else {
-        Ok(Outcome::Differs(came))
+        Outcome::Differs(right)
     }
 }

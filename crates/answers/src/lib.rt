@@ -1,26 +1,28 @@
-// The right answer to each question of a vector line, from the formats, the rules, the rounding unit and the generator.
-//
-// `answer` is proved to answer what the meanings of these say: an operation's rounded exact result, a split, the numbers next to a code,
-// the ends of a format, what a rule says, the unit's quotient and the generator's first words, or the number of the refusal.
+//! The right answer to each question of a vector line, from the formats, the rules, the rounding unit and the generator.
+//!
+//! `answer` is proved to answer what the meanings of these say: an operation's rounded exact result, a split, the numbers next to a code,
+//! the ends of a format, what a rule says, the unit's quotient and the generator's first words, or the number of the refusal.
 #![tactic(auto)]
 
 mod answering;
 mod comparing;
 mod operated;
-mod others;
+mod refused;
+mod unit_and_generator;
 
 pub use answering::answer;
 pub use comparing::{Outcome, compare};
 
-// Examples: each kind of line, answers as they are written, the largest numbers, and lines that cannot be read.
+/// Examples: each kind of line, answers as they are written, the largest numbers, and lines that cannot be read.
 #[cfg(test)]
 mod tests {
     use super::*;
     use lines::{Answer, Malformed, parse_line};
+    use operations::Rounded;
     use std::test::Fail;
 
     #[test]
-    fn lines_are_compared(rt: HostRuntime) -> Result<(), Fail> {
+    fn lines_are_compared(rt: HostRuntime) {
         for (line, outcome) in [
             ("", Outcome::PassedOver),
             (" \t\r ", Outcome::PassedOver),
@@ -34,10 +36,10 @@ mod tests {
             ("unit nearest 8 8 -384 - -> -1", Outcome::Agrees),
             (
                 "s8.7 8 carry mul 0x81 0x81 0x01ffffff -> 0x83 0",
-                Outcome::Differs(Answer::Rounded {
+                Outcome::Differs(Answer::Rounded(Rounded {
                     code: 0x82,
                     clamped: false,
-                }),
+                })),
             ),
             (
                 "u33.0 0 carry mul 0x81 0x81 - -> refused 2",
@@ -53,13 +55,12 @@ mod tests {
             ("size 1 8 7", Outcome::Malformed(Malformed::Question)),
             ("size 1 8 7 ->", Outcome::Malformed(Malformed::Expectation)),
         ] {
-            assert_eq!(rt; compare(rt.alloc(), line.as_bytes())?, outcome);
+            assert_eq!(rt; compare(line.as_bytes()), outcome);
         }
         assert_eq!(rt;
-            compare(rt.alloc(), &[0xff, 0, b' ', 0xc3])?,
+            compare(&[0xff, 0, b' ', 0xc3]),
             Outcome::Malformed(Malformed::Question)
         );
-        Ok(())
     }
 
     #[test]
@@ -90,7 +91,7 @@ mod tests {
     }
 
     #[test]
-    fn some_lines_cannot_be_read(rt: HostRuntime) -> Result<(), Fail> {
+    fn some_lines_cannot_be_read(rt: HostRuntime) {
         for line in [
             "->",
             " # no comment",
@@ -103,7 +104,7 @@ mod tests {
             "unit down 1 1 9223372036854775808 - -> 0",
             "lcg 4294967296 -> 0x1 0x1 0x1 0x1 0x1 0x1 0x1 0x1",
         ] {
-            let outcome = compare(rt.alloc(), line.as_bytes())?;
+            let outcome = compare(line.as_bytes());
             assert_eq!(rt; outcome, Outcome::Malformed(Malformed::Question));
         }
         for line in [
@@ -115,9 +116,8 @@ mod tests {
             "unit down 1 1 0 - -> 0x1",
             "lcg 0 -> 0x1 0x1 0x1 0x1 0x1 0x1 0x1",
         ] {
-            let outcome = compare(rt.alloc(), line.as_bytes())?;
+            let outcome = compare(line.as_bytes());
             assert_eq!(rt; outcome, Outcome::Malformed(Malformed::Expectation));
         }
-        Ok(())
     }
 }
