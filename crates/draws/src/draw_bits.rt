@@ -8,7 +8,8 @@ use crate::refusal::Refusal;
 use std::error::Error;
 use std::fmt;
 
-/// k, the number of bits of a draw. No value is out of range.
+/// k, the number of bits of a draw. No value is out of range. It has no `impl Model`: with one, a struct that holds it, as the
+/// settings of the rounding unit do, could not be copied by those who prove what they do with it.
 #[derive(Clone, Copy, PartialEq, Eq, Debug)]
 pub struct DrawBits {
     bits: u32,

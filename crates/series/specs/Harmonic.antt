@@ -5,6 +5,7 @@ use Rattle.draws.specs.declared.sources.SourceFault.{SourceFault}
 use Rattle.draws.specs.DrawBits.{draw}
 use Rattle.draws.specs.Refusals.{source_refusal}
 use Rattle.draws.specs.Streams.{Stream}
+use Rattle.draws.specs.Taking.{TooFew}
 use Rattle.unit.specs.declared.modes.Mode.{Mode}
 use Rattle.unit.specs.declared.modes.Mode.TheVariants.{Down, Nearest, Stochastic}
 use Rattle.unit.specs.Rounding.{rounded, Leaves}
@@ -38,8 +39,7 @@ SumsSurely coming mode k before after (Err e) = ⊥
 -- The sum of the series; in the stochastic mode refusal 8 where fewer than 999 words are left, and the source is as before.
 abbrev pub Sums : {S : Type 0} → (S → Stream) → Mode → ℕ → S → S → Result ℤ SourceFault → Type 0
 Sums coming mode k before after (Ok v) = SummedTo coming mode k before after v
-Sums coming mode k before after (Err e) =
-    (mode ≡ Stochastic) × ((coming before).left 999 ≡ false) × (source_refusal e ≡ 8) × (after ≡ before)
+Sums coming mode k before after (Err e) = (mode ≡ Stochastic) × TooFew coming 999 e before after
 
 -- Rounded down the series ends at 645, which is 5.0390625, and rounded to nearest at 821, which is 6.4140625.
 abbrev pub Values : Type 0

@@ -23,8 +23,8 @@ fn check_words<S: Source>(mode: Mode, source: &S) -> Result<(), SourceFault>
 
 /// 1 and the rounded terms 1/2 to 1/1000.
 fn rounded_terms<S: Source>(stretch: &Stretch<'_>, source: &mut S) -> Result<i32, SourceFault>
-    requires { (stretch.now.unit.now.settings.n ≡ 9) × (stretch.now.unit.now.settings.mode ≡ Stochastic → (S.coming source.old).left 999 ≡ true) }
-    ensures { SumsSurely S.coming stretch.now.unit.now.settings.mode stretch.now.unit.now.settings.k.bits source.old source.new result }
+    requires { (stretch.now.unit.now.n ≡ 9) × (stretch.now.unit.now.mode ≡ Stochastic → (S.coming source.old).left 999 ≡ true) }
+    ensures { SumsSurely S.coming stretch.now.unit.now.mode stretch.now.unit.now.k.bits source.old source.new result }
 {
     let mut sum = 128;
     for i in 2..=1000u32 {
@@ -39,8 +39,8 @@ pub fn harmonic_sum<S: Source>(
     mode: Mode,
     source: &mut S,
 ) -> Result<i32, SourceFault>
-    ensures answer { Sums S.coming mode unit.old.settings.k.bits source.old source.new result }
-    ensures restored { unit.new.settings ≡ unit.old.settings }
+    ensures answer { Sums S.coming mode unit.old.k.bits source.old source.new result }
+    ensures restored { unit.new ≡ unit.old }
     ensures values { Values }
 {
     check_words(mode, source)?;

@@ -1,11 +1,11 @@
 -- What the unit answers for x, under each mode. Assumes nothing.
-use Rattle.std.specs.Prelude.{◌≡◌, ℕ, ◌-◌, ◌*◌, ◌/◌, ◌^◌, min, true, false, cond, ℤ, pos, negsuc, ◌+ℤ◌, Ok, Err, Result}
+use Rattle.std.specs.Prelude.{◌≡◌, ℕ, ◌-◌, ◌*◌, ◌/◌, ◌^◌, min, true, cond, ℤ, pos, negsuc, ◌+ℤ◌, Ok, Err, Result}
 use Rattle.whole.specs.Division.{floor, modulo}
 use Rattle.draws.specs.declared.sources.SourceFault.{SourceFault}
 use Rattle.draws.specs.DrawBits.{draw}
-use Rattle.draws.specs.Refusals.{source_refusal}
 use Rattle.draws.specs.Rules.{compares}
 use Rattle.draws.specs.Streams.{Stream, rest, skipped}
+use Rattle.draws.specs.Taking.{TooFew}
 use Rattle.unit.specs.declared.modes.Mode.{Mode}
 use Rattle.unit.specs.declared.modes.Mode.TheVariants.{Down, Nearest, Stochastic}
 use Rattle.unit.specs.declared.settings.Settings.{Settings}
@@ -33,7 +33,7 @@ rounded mode n k x d = clamped (quotient mode n k x d)
 abbrev pub DrawsQuotient : {S : Type 0} → (S → Stream) → ℕ → ℕ → ℤ → S → S → Result ℤ SourceFault → Type 0
 DrawsQuotient coming n k x before after (Ok v) =
     ((coming before).left 1 ≡ true) × (v ≡ quotient Stochastic n k x (draw k ((coming before).word 0))) × (coming after ≡ rest (coming before))
-DrawsQuotient coming n k x before after (Err e) = ((coming before).left 1 ≡ false) × (source_refusal e ≡ 8) × (after ≡ before)
+DrawsQuotient coming n k x before after (Err e) = TooFew coming 1 e before after
 
 -- what m roundings leave of the source: all of it, but for the stochastic mode, which takes a word for each
 abbrev pub Leaves : {S : Type 0} → (S → Stream) → Mode → ℕ → S → S → Type 0
@@ -45,5 +45,4 @@ Leaves coming Stochastic m before after = ((coming before).left m ≡ true) × (
 abbrev pub Rounds : {S : Type 0} → (S → Stream) → Settings → ℤ → S → S → Result ℤ SourceFault → Type 0
 Rounds coming s x before after (Ok v) =
     (v ≡ rounded s.mode s.n s.k.bits x (draw s.k.bits ((coming before).word 0))) × Leaves coming s.mode 1 before after
-Rounds coming s x before after (Err e) =
-    (s.mode ≡ Stochastic) × ((coming before).left 1 ≡ false) × (source_refusal e ≡ 8) × (after ≡ before)
+Rounds coming s x before after (Err e) = (s.mode ≡ Stochastic) × TooFew coming 1 e before after

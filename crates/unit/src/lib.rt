@@ -2,8 +2,8 @@
 //! to signed 32 bits.
 //!
 //! Its settings (mode, n and k) cannot be out of range. A `Stretch` replaces them for a while, and its end restores
-//! the earlier ones. Only the stochastic mode takes a word; its results over all 2^k draws sum to 2^k times the
-//! exact quotient, but for the fraction that the count of far draws drops.
+//! the earlier ones. Only the stochastic mode takes a word; where nothing is clamped, its results over all 2^k draws
+//! sum to 2^k times the exact quotient, but for the fraction that the count of far draws drops.
 #![tactic(auto)]
 
 mod division;

@@ -7,6 +7,7 @@ use crate::division::clamp;
 use crate::modes::Mode;
 use crate::settings::Settings;
 use draws::{Comparison, Neighbour, Source, SourceFault};
+use std::marker::Model;
 
 impl Settings {
     /// The floor of x / 2^n or the next whole number, as the draw of the next word decides.
@@ -21,7 +22,7 @@ impl Settings {
         }
     }
 
-    /// x / 2^n under these settings. `RoundingUnit::round` is this, with its laws.
+    /// x / 2^n under these settings. `RoundingUnit::round` is this, with its laws; in one function with them it did not prove.
     fn rounded<S: Source>(self, x: i64, source: &mut S) -> Result<i32, SourceFault>
         ensures { Rounds S.coming self x source.old source.new result }
     {
@@ -41,33 +42,43 @@ pub struct RoundingUnit {
     settings: Settings,
 }
 
+/// It stands for its settings.
+impl Model for RoundingUnit {
+    ghost use Rattle.unit.specs.declared.settings.Settings.{Settings};
+
+    ghost Value = { Settings };
+
+    ghost view = { λ u. u.settings };
+}
+
 impl RoundingUnit {
     /// A unit with these settings.
     pub fn new(settings: Settings) -> RoundingUnit
-        ensures { result.settings ≡ settings }
+        ensures { result ≡ settings }
     {
         RoundingUnit { settings }
     }
 
     /// The settings it has now.
     pub fn settings(&self) -> Settings
-        ensures { result ≡ self.now.settings }
+        ensures { result ≡ self.now }
     {
         self.settings
     }
 
     /// Replaces the settings.
     pub fn set_settings(&mut self, settings: Settings)
-        ensures { self.new.settings ≡ settings }
+        ensures { self.new ≡ settings }
     {
         self.settings = settings;
     }
 
-    /// x / 2^n as a signed 32-bit number. The stochastic mode takes a word, and refuses where none is left.
+    /// x / 2^n as a signed 32-bit number. The stochastic mode takes a word, and refuses where none is left. That the settings
+    /// stay is in `&self`; the clause says it, and holds of any body.
     pub fn round<S: Source>(&self, x: i64, source: &mut S) -> Result<i32, SourceFault>
-        ensures answer { Rounds S.coming self.now.settings x source.old source.new result }
-        ensures settings { self.exit.now.settings ≡ self.entry.now.settings }
-        ensures laws { UnitLaws self.now.settings.n self.now.settings.k.bits x }
+        ensures answer { Rounds S.coming self.now x source.old source.new result }
+        ensures settings { self.exit.now ≡ self.entry.now }
+        ensures laws { UnitLaws self.now.n self.now.k.bits x }
     {
         self.settings.rounded(x, source)
     }

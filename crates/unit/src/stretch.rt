@@ -15,7 +15,7 @@ pub struct Stretch<'a> {
 impl Stretch<'_> {
     /// As `RoundingUnit::round`, under the settings of the stretch.
     pub fn round<S: Source>(&self, x: i64, source: &mut S) -> Result<i32, SourceFault>
-        ensures answer { Rounds S.coming self.now.unit.now.settings x source.old source.new result }
+        ensures answer { Rounds S.coming self.now.unit.now x source.old source.new result }
     {
         self.unit.round(x, source)
     }
@@ -23,7 +23,7 @@ impl Stretch<'_> {
 
 impl Drop for Stretch<'_> {
     fn drop(self)
-        ensures { self.exit.0.now.settings ≡ self.entry.earlier }
+        ensures { self.exit.0.now ≡ self.entry.earlier }
     {
         let Stretch { unit, earlier } = self;
         unit.set_settings(earlier);
@@ -33,8 +33,8 @@ impl Drop for Stretch<'_> {
 impl RoundingUnit {
     /// Rounds under other settings until the stretch ends.
     pub fn stretch(&mut self, settings: Settings) -> Stretch<'_>
-        ensures earlier { result.earlier ≡ self.old.settings }
-        ensures settings { result.unit.now.settings ≡ settings }
+        ensures earlier { result.earlier ≡ self.old }
+        ensures settings { result.unit.now ≡ settings }
         ensures same { result.unit.ghost_name ≡ self.entry.ghost_name }
     {
         let earlier = self.settings();
@@ -53,7 +53,7 @@ impl RoundingUnit {
         source: &mut S,
     ) -> Result<i32, SourceFault>
         ensures answer { Rounds S.coming settings x source.old source.new result }
-        ensures restored { self.new.settings ≡ self.old.settings }
+        ensures restored { self.new ≡ self.old }
     {
         self.stretch(settings).round(x, source)
     }

@@ -7,7 +7,7 @@ use Rattle.series.proofs.rounded_terms.Goals as goal
 
 pub loop-i-init : goal.loop-i-init
 loop-i-init g c =
-    let s = c.args.stretch.now.unit.now.settings in
+    let s = c.args.stretch.now.unit.now in
     summed_none g.S.Source.coming s.mode s.k.bits c.args.source.now (g.met.S.Source.listed c.args.source.now)
 
 -- a word is left before each term, so no rounding is refused
@@ -18,11 +18,11 @@ returns-in_err-sum g c =
     let told = c.in_err-sum.ensures.answer in
     let so = rw told.0 at c.loop-i.invariant.left in
     let some = word_left g.S.Source.coming 0 (c.loop-i.i - 2) before now (g.met.S.Source.listed before) (omega (arith, c.loop-i-test.true)) (c.requires.1 told.0) so in
-    cc told.1
+    cc told.1.0
 
 pub loop-i-preserved : goal.loop-i-preserved
 loop-i-preserved g c =
-    let s = c.args.stretch.now.unit.now.settings in
+    let s = c.args.stretch.now.unit.now in
     let coming = g.S.Source.coming in
     let i = c.loop-i.i in
     let m : ℕ = i - 2 in
