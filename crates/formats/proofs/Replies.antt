@@ -30,10 +30,10 @@ same_fault ZeroDivisor ZeroDivisor e = refl
 -- a split that is not refused has passed every test
 pub accepted : (bits left right zero : Bool) → ◌≡◌ {A = Option ℕ} (cond bits (cond left (cond right (cond zero (Some 4) None) (Some 3)) (Some 3)) (Some 2)) None → (left ≡ true) × (right ≡ true) × (zero ≡ false)
 accepted true true true false e = (refl, refl, refl)
-accepted true true true true e = let z : ◌≡◌ {A = ℕ} 0 1 = cc in absurd (omega arith)
-accepted true true false zero e = let z : ◌≡◌ {A = ℕ} 0 1 = cc in absurd (omega arith)
-accepted true false right zero e = let z : ◌≡◌ {A = ℕ} 0 1 = cc in absurd (omega arith)
-accepted false left right zero e = let z : ◌≡◌ {A = ℕ} 0 1 = cc in absurd (omega arith)
+accepted true true true true e = absurd (cc)
+accepted true true false zero e = absurd (cc)
+accepted true false right zero e = absurd (cc)
+accepted false left right zero e = absurd (cc)
 
 module _ (M N : Meaning) (same : Same M N) (asked : Calculation) (k : ℕ) where
   -- what is looked at after the left code
@@ -61,8 +61,8 @@ module _ (M N : Meaning) (same : Same M N) (asked : Calculation) (k : ℕ) where
 
   pub replies_alike : (a b : Result Split FormatFault) → AnswersSplit M asked k a → AnswersSplit N asked k b → a ≡ b
   replies_alike (Ok s) (Ok t) a b = ap Ok (splits_alike s t a b)
-  replies_alike (Ok s) (Err e) a b = let c = sym a.0 ∙ refusal_alike ∙ b in let z : ◌≡◌ {A = ℕ} 0 1 = cc in absurd (omega arith)
-  replies_alike (Err e) (Ok t) a b = let c = sym a ∙ refusal_alike ∙ b.0 in let z : ◌≡◌ {A = ℕ} 0 1 = cc in absurd (omega arith)
+  replies_alike (Ok s) (Err e) a b = let c = sym a.0 ∙ refusal_alike ∙ b in absurd (cc)
+  replies_alike (Err e) (Ok t) a b = let c = sym a ∙ refusal_alike ∙ b.0 in absurd (cc)
   replies_alike (Err e) (Err f) a b =
       let c = sym a ∙ refusal_alike ∙ b in
       ap Err (same_fault e f (cc))

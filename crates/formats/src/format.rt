@@ -7,7 +7,8 @@ use crate::faults::FormatFault;
 use crate::split::{Calculation, Split};
 
 /// A format by its meaning: which codes are numbers, their values, the result code of each value, and which of two neighbouring
-/// numbers is near. It answers every question from that alone, and no question changes it.
+/// numbers is near. It answers every question from that alone, and no question changes it: that is in `&self`, and the clauses
+/// `unchanged` say it for a reader.
 pub trait Format {
     ghost meaning: { Self → Meaning };
 
