@@ -87,12 +87,12 @@ module _ (f : Fixed) where
 -- the split of the exact result answers the question, where nothing is refused
 pub answers_split : (f : Fixed) (asked : Calculation) (k bits : ℕ) (v w : ℤ) (x : Exact) (s : Split) →
     bits_in_range k ≡ true → bits ≡ k → (format_of f).number asked.left ≡ true → v ≡ (format_of f).value asked.left → (format_of f).number asked.right ≡ true → w ≡ (format_of f).value asked.right →
-    divides_by_zero asked.operation w ≡ false → x.numerator ≡ (of_values f.fraction asked.operation v w).numerator → x.denominator ≡ (of_values f.fraction asked.operation v w).denominator →
+    divides_by_zero asked.operation w ≡ false → x ≡ of_values f.fraction asked.operation v w →
     Splits (format_of f) bits x s → AnswersSplit (format_of f) asked k (Ok s)
-answers_split f asked k bits v w x s range same t left_value t' right_value some numerator denominator splits =
+answers_split f asked k bits v w x s range same t left_value t' right_value some is splits =
     (search rules, subst (λ (y : Exact). Splits (format_of f) k y s) exactly (subst (λ (j : ℕ). Splits (format_of f) j x s) same splits))
   where
     exactly : x ≡ exact (format_of f) asked
     exactly =
-        ap₂ (λ (n : ℤ) (d : ℕ). let y : Exact = record { numerator = n; denominator = d } in y) numerator denominator
+        is
         ∙ ap₂ (of_values f.fraction asked.operation) left_value right_value

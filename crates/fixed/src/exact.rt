@@ -3,6 +3,7 @@ ghost use Rattle.std.specs.Prelude.{◌≡◌, ◌^◌, ◌<◌, ◌==◌, true,
 ghost use Rattle.formats.specs.Exact.{of_values, signed_as};
 ghost use Rattle.formats.specs.Questions.{divides_by_zero};
 ghost use Rattle.formats.specs.Refusals.{format_refusal};
+ghost use Rattle.formats.specs.declared.split.Operation.TheVariants.{Quotient};
 
 use crate::fraction::Fraction;
 use crate::number::Number;
@@ -26,7 +27,7 @@ impl Fixed {
         left: Number,
         right: Number,
     ) -> Result<Fraction, FormatFault>
-        ensures { elim result [ Ok x ↦ (divides_by_zero operation right.value ≡ false) × (x.numerator ≡ (of_values self.fraction operation left.value right.value).numerator) × (x.denominator ≡ (of_values self.fraction operation left.value right.value).denominator) | Err e ↦ (divides_by_zero operation right.value ≡ true) × (format_refusal e ≡ 4) ] }
+        ensures { elim result [ Ok x ↦ (divides_by_zero operation right.value ≡ false) × (x ≡ of_values self.fraction operation left.value right.value) | Err e ↦ (divides_by_zero operation right.value ≡ true) × (format_refusal e ≡ 4) ] }
     {
         // an operation is a value that is read and compared, which no closure can be
         match operation {
@@ -56,7 +57,7 @@ impl Fixed {
 
     /// left / right, with its sign in the numerator.
     fn quotient(self, left: Number, right: Number) -> Result<Fraction, FormatFault>
-        ensures { elim result [ Ok x ↦ ((unsigned_abs right.value == 0) ≡ false) × (x.numerator ≡ signed_as right.value (left.value *ℤ pos (2 ^ self.fraction))) × (x.denominator ≡ unsigned_abs right.value) | Err e ↦ ((unsigned_abs right.value == 0) ≡ true) × (format_refusal e ≡ 4) ] }
+        ensures { elim result [ Ok x ↦ ((unsigned_abs right.value == 0) ≡ false) × (x ≡ of_values self.fraction Quotient left.value right.value) | Err e ↦ ((unsigned_abs right.value == 0) ≡ true) × (format_refusal e ≡ 4) ] }
     {
         let dividend = self.scaled(left);
         let divisor = right.units();

@@ -1,20 +1,30 @@
 //! Fractions of units, and what lies above their whole part.
 ghost use Rattle.std.specs.Prelude.{◌≡◌, ◌*◌, ◌/◌, ◌^◌, ◌<◌, ◌≤◌, unsigned_abs};
 ghost use Rattle.whole.specs.Division.{Divided};
+ghost use Rattle.formats.specs.Exact.{Exact};
 
 use draws::DrawBits;
+use std::marker::Model;
 
 /// numerator / denominator units.
 #[derive(Clone, Copy)]
 pub(crate) struct Fraction {
     pub(crate) numerator: i128,
     pub(crate) denominator: u64,
-    ghost fits: { unsigned_abs numerator < 2 ^ 64 },
-    ghost some: { 0 < denominator },
-    ghost small: { denominator ≤ 2 ^ 32 },
 }
 
-/// A part of a unit: `part` of as many as `whole`.
+/// It stands for the exact result that it is.
+impl Model for Fraction {
+    ghost Value = { Exact };
+
+    ghost view = { λ x. record { numerator = x.numerator; denominator = x.denominator } };
+
+    ghost invariant = { λ x. (unsigned_abs x.numerator < 2 ^ 64) × (0 < x.denominator) × (x.denominator ≤ 2 ^ 32) };
+
+    ghost inverse = { λ x. record { numerator = x.numerator; denominator = x.denominator } };
+}
+
+/// `part` / `whole` of a unit, less than all of it.
 #[derive(Clone, Copy)]
 pub(crate) struct Part {
     pub(crate) part: u64,

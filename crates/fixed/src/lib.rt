@@ -1,7 +1,7 @@
 //! Fixed point: s sign bits, i integer bits and p fractional bits, 2 to 32 in all, written s8.7 or u0.32.
 //!
 //! `Fixed` cannot have other sizes. It is a `Format`: its numbers are the codes below 2^(s+i+p), in two's complement where s is 1, its
-//! unit is 2^-p, and near is the lower neighbour. Splits are straight-line integer arithmetic: one product and three divisions at most.
+//! unit is 2^-p, and near is the lower neighbour. A split is integer arithmetic without loops: one product and three divisions at most.
 #![tactic(auto)]
 
 mod exact;
@@ -50,94 +50,54 @@ mod tests {
         Ok(())
     }
 
+    /// A split that is not clamped.
+    fn within(near: u32, far: u32, count: u64) -> Split {
+        Split {
+            parts: (near, far, count),
+            clamped: false,
+        }
+    }
+
+    /// The split of what is beyond an end.
+    fn beyond(end: u32) -> Split {
+        Split {
+            parts: (end, end, 0),
+            clamped: true,
+        }
+    }
+
+    #[test]
+    fn splits_in_s8_7(rt: HostRuntime) -> Result<(), Fail> {
+        let format = Fixed::new(1, 8, 7)?;
+        for (asked, split) in [
+            (Operation::Product.of(0x81, 0x81), within(0x82, 0x83, 2)),
+            (Operation::Product.of(0xffff, 1), within(0xffff, 0, 254)),
+            (Operation::Quotient.of(0x80, 0x180), within(0x2a, 0x2b, 170)),
+            (Operation::Sum.of(0x7fff, 1), beyond(0x7fff)),
+        ] {
+            assert_eq!(rt; format.split(asked, 8), Ok(split));
+        }
+        Ok(())
+    }
+
     #[test]
     fn splits_at_the_corners(rt: HostRuntime) -> Result<(), Fail> {
-        for (s, i, p, k, operation, left, right, parts, clamped) in [
+        let top = 0xffff_ffff;
+        let product = Operation::Product.of(top, top);
+        let least = Operation::Product.of(0x8000_0000, 0x8000_0000);
+        for ((s, i, p), k, asked, split) in [
+            ((0, 0, 32), 32, product, within(0xffff_fffe, top, 1)),
             (
-                1,
-                8,
-                7,
-                8,
-                Operation::Product,
-                0x81,
-                0x81,
-                (0x82, 0x83, 2),
-                false,
-            ),
-            (
-                1,
-                8,
-                7,
-                8,
-                Operation::Product,
-                0xffff,
-                1,
-                (0xffff, 0, 254),
-                false,
-            ),
-            (
-                1,
-                8,
-                7,
-                8,
-                Operation::Quotient,
-                0x80,
-                0x180,
-                (0x2a, 0x2b, 170),
-                false,
-            ),
-            (
-                1,
-                8,
-                7,
-                8,
-                Operation::Sum,
-                0x7fff,
-                1,
-                (0x7fff, 0x7fff, 0),
-                true,
-            ),
-            (
-                0,
-                0,
+                (0, 0, 32),
                 32,
-                32,
-                Operation::Product,
-                0xffff_ffff,
-                0xffff_ffff,
-                (0xffff_fffe, 0xffff_ffff, 1),
-                false,
+                Operation::Quotient.of(1, top),
+                within(1, 2, 1),
             ),
-            (
-                0,
-                0,
-                32,
-                32,
-                Operation::Quotient,
-                1,
-                0xffff_ffff,
-                (1, 2, 1),
-                false,
-            ),
-            (
-                1,
-                0,
-                31,
-                1,
-                Operation::Product,
-                0x8000_0000,
-                0x8000_0000,
-                (0x7fff_ffff, 0x7fff_ffff, 0),
-                true,
-            ),
-            (1, 1, 0, 1, Operation::Quotient, 2, 3, (1, 1, 0), true),
-            (0, 2, 0, 1, Operation::Difference, 1, 2, (0, 0, 0), true),
+            ((1, 0, 31), 1, least, beyond(0x7fff_ffff)),
+            ((1, 1, 0), 1, Operation::Quotient.of(2, 3), beyond(1)),
+            ((0, 2, 0), 1, Operation::Difference.of(1, 2), beyond(0)),
         ] {
-            let format = Fixed::new(s, i, p)?;
-            assert_eq!(rt;
-                format.split(operation.of(left, right), k),
-                Ok(Split { parts, clamped })
-            );
+            assert_eq!(rt; Fixed::new(s, i, p)?.split(asked, k), Ok(split));
         }
         Ok(())
     }

@@ -40,7 +40,7 @@ impl Fixed {
     pub(crate) fn number_at(self, value: i128) -> Option<Number>
         ensures { At self value result }
     {
-        // made only where it is none beyond an end
+        // a `Number` is made inside the test, since its invariant holds only there
         if (self.least_number().value..=self.greatest_number().value).contains(&value) {
             Some(Number {
                 format: self,
@@ -75,7 +75,7 @@ impl Fixed {
 }
 
 impl Number {
-    /// Its value in units.
+    /// Its value in units, with the bound that the arithmetic on it needs.
     pub(crate) fn units(self) -> i128
         ensures value { result ≡ self.value }
         ensures small { unsigned_abs result < 2 ^ 32 }

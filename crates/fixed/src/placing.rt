@@ -46,7 +46,7 @@ impl Number {
 impl Fixed {
     /// The split of a fraction of units. 0 is a number of every format, so the sign of a floor that is beyond an end tells which.
     pub(crate) fn place(self, k: DrawBits, x: Fraction) -> Split
-        ensures { Splits (format_of self) k.bits (record { numerator = x.numerator; denominator = x.denominator }) result }
+        ensures { Splits (format_of self) k.bits x result }
     {
         let (floor, above) = x.divided();
         match self.number_at(floor) {

@@ -19,7 +19,7 @@ pub struct Fixed {
 }
 
 impl Fixed {
-    /// Refuses sizes that are out of range. In every format that it makes, each value has the code of its number.
+    /// Refuses sizes that are out of range. In every format that it makes, the result code of a number's value is its own code.
     pub fn new(s: u64, i: u64, p: u64) -> Result<Fixed, SizesFault>
         ensures answer { elim result [ Ok f ↦ (sizes_in_range s i p ≡ true) × (f.sign ≡ s) × (f.integer ≡ i) × (f.fraction ≡ p) | Err e ↦ (sizes_in_range s i p ≡ false) × (sizes_refusal e ≡ 1) ] }
         ensures own { OneCode (fixed s i p) }
@@ -53,7 +53,8 @@ impl Fixed {
         1 << (self.sign + self.integer + self.fraction)
     }
 
-    /// How many of them are not negative: the codes below this one.
+    /// How many codes are numbers that are not negative: those below this one.
+    #[tactic(auto, using(crate::specs::Ranges::most_codes))]
     pub(crate) fn non_negative_codes(self) -> u64
         ensures value { result ≡ 2 ^ (self.integer + self.fraction) }
         ensures low { 0 < result }
