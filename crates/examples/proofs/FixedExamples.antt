@@ -1,5 +1,5 @@
 -- The worked examples in fixed point hold. Assumes nothing.
-use Rattle.std.proofs.Common.{◌≡◌, ℕ, ◌*◌, ◌/◌, ◌^◌, ◌<◌, true, false, ℤ, pos, negsuc, ◌+ℤ◌, ◌≤ℤ◌, ◌<ℤ◌, sym, refl, ap, arith, lit<, lit≤}
+use Rattle.std.proofs.Common.{◌≡◌, ℕ, ◌*◌, ◌/◌, ◌<◌, true, false, ℤ, pos, negsuc, ◌+ℤ◌, ◌≤ℤ◌, ◌<ℤ◌, sym, refl, ap, arith, lit<, lit≤}
 use Rattle.std.proofs.lemmas.Int.{ints}
 use Rattle.whole.specs.Sums.{sum, below}
 use Rattle.whole.specs.Division.{Divided}
@@ -13,13 +13,13 @@ use Rattle.formats.specs.Search.{split_of}
 use Rattle.formats.proofs.Determined.{determined}
 use Rattle.operations.specs.Rounding.{chosen}
 use Rattle.fixed.specs.Fixed.{code_of, fixed}
-use Rattle.fixed.specs.Ranges.{some_codes, most_codes, lawful}
+use Rattle.fixed.specs.Ranges.{fixed_lawful}
 use Rattle.fixed.proofs.Places.{placed_above, placed_under, placed_between}
 use Rattle.examples.specs.Fixed.{FixedExamples}
 
 -- s8.7 keeps the laws
 s8_7_lawful : Lawful (fixed 1 8 7)
-s8_7_lawful = lawful (2 ^ 16) (2 ^ 15) 7 (some_codes 8 7) (most_codes 1 8 7) (lit≤ tt)
+s8_7_lawful = fixed_lawful 1 8 7 (lit≤ tt)
 
 -- a split of x at k = 8 is the split of x
 the_split : (x : Exact) (s : Split) → Splits (fixed 1 8 7) 8 x s → split_of (fixed 1 8 7) 8 x ≡ s

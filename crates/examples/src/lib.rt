@@ -5,6 +5,7 @@
 ghost use Rattle.examples.specs.Worked.{WorkedExamples};
 
 /// The examples hold.
+#[tactic(auto, using(crate::proofs::FixedExamples::fixed_examples))]
 pub fn worked_examples()
     ensures { WorkedExamples }
 {}

@@ -1,10 +1,10 @@
 -- What an operation answers. Assumes nothing.
-use Rattle.std.specs.Prelude.{◌≡◌, ℕ, true, false, cond, Some, None, Ok, Err, Result}
+use Rattle.std.specs.Prelude.{◌≡◌, ℕ, true, cond, Some, None, Ok, Err, Result}
 use Rattle.draws.specs.declared.sources.SourceFault.{SourceFault}
 use Rattle.draws.specs.DrawBits.{draw}
-use Rattle.draws.specs.Refusals.{source_refusal}
 use Rattle.draws.specs.Rules.{Says}
 use Rattle.draws.specs.Streams.{Stream, rest}
+use Rattle.draws.specs.Taking.{TooFew}
 use Rattle.formats.specs.declared.faults.FormatFault.{FormatFault}
 use Rattle.formats.specs.declared.split.Calculation.{Calculation}
 use Rattle.formats.specs.declared.split.Split.{Split}
@@ -26,7 +26,7 @@ chosen says k s t = record { code = cond (says k (count s) t) (far s) (near s); 
 abbrev pub Rounds : {S : Type 0} → (S → Stream) → Says → ℕ → Split → S → S → Result Rounded SourceFault → Type 0
 Rounds coming says k s before after (Ok r) =
     ((coming before).left 1 ≡ true) × (r ≡ chosen says k s (draw k ((coming before).word 0))) × (coming after ≡ rest (coming before))
-Rounds coming says k s before after (Err e) = ((coming before).left 1 ≡ false) × (source_refusal e ≡ 8) × (after ≡ before)
+Rounds coming says k s before after (Err e) = TooFew coming 1 e before after
 
 -- the split of the exact result of an operation, or its refusal
 abbrev pub SplitsOnce : Meaning → Calculation → ℕ → Result Split FormatFault → Type 0
@@ -44,5 +44,4 @@ Performs coming says M asked k before after (Ok r) =
     (refusal M asked k ≡ None) × ((coming before).left 1 ≡ true)
     × (r ≡ rounded says M k (exact M asked) (draw k ((coming before).word 0))) × (coming after ≡ rest (coming before))
 Performs coming says M asked k before after (Err (Format e)) = (refusal M asked k ≡ Some (format_refusal e)) × (after ≡ before)
-Performs coming says M asked k before after (Err (Source e)) =
-    (refusal M asked k ≡ None) × ((coming before).left 1 ≡ false) × (source_refusal e ≡ 8) × (after ≡ before)
+Performs coming says M asked k before after (Err (Source e)) = (refusal M asked k ≡ None) × TooFew coming 1 e before after

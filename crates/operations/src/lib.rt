@@ -1,8 +1,9 @@
 //! The operations of a number format, stochastically rounded: sum, difference, product and quotient.
 //!
 //! Each takes the exact result, has the format split it into a near code, a far code and a count, and takes one word from a source:
-//! its draw decides by a rule which of the two is the result. Proved once for every format, rule and source: over all 2^k
-//! draws the values of the results add up to 2^k times the exact result, but for the fraction that the count drops.
+//! its draw decides by a rule which of the two is the result. Proved once for every format, rule and source: where nothing is
+//! clamped, the values of the results over all 2^k draws add up to 2^k times the exact result, but for the fraction that the
+//! count drops.
 #![tactic(auto)]
 
 mod faults;

@@ -17,28 +17,17 @@ pub struct Arithmetic<F, R> {
 }
 
 impl<F: Format, R: Rule> Arithmetic<F, R> {
-    /// The format's split of the exact result. Its laws leave only one.
+    /// The format's split of the exact result. Its laws leave only one: that is proved here, since it did not prove in `perform`.
+    #[tactic(auto, using(crate::proofs::Means::splits_once))]
     fn split(&self, calculation: Calculation) -> Result<Split, FormatFault>
         ensures { SplitsOnce (F.meaning self.now.format) calculation self.now.k result }
     {
         self.format.split(calculation, self.k)
     }
 
-    /// The exact result of an operation on two numbers, rounded by the draw of one word. `perform` is this, with its laws.
-    fn performed<S: Source>(
-        &self,
-        calculation: Calculation,
-        source: &mut S,
-    ) -> Result<Rounded, OperationFault>
-        ensures { Performs S.coming (R.says self.now.rule) (F.meaning self.now.format) calculation self.now.k source.old source.new result }
-    {
-        let split = self.split(calculation)?;
-        let k = DrawBits::new(self.k)?;
-        Ok(round(split, k, &self.rule, source)?)
-    }
-
     /// One operation on two numbers of the format. It takes one word, also where the exact result is a number or beyond an end. Refuses
     /// a k that is not 1 to 32, a left and then a right code that is no number, a divisor of value 0, and a source with no word left.
+    #[tactic(auto, using(crate::proofs::Means::operation_laws))]
     pub fn perform<S: Source>(
         &self,
         calculation: Calculation,
@@ -47,6 +36,8 @@ impl<F: Format, R: Rule> Arithmetic<F, R> {
         ensures answer { Performs S.coming (R.says self.now.rule) (F.meaning self.now.format) calculation self.now.k source.old source.new result }
         ensures laws { OperationLaws }
     {
-        self.performed(calculation, source)
+        let split = self.split(calculation)?;
+        let k = DrawBits::new(self.k)?;
+        Ok(round(split, k, &self.rule, source)?)
     }
 }

@@ -4,7 +4,7 @@ ghost use Rattle.operations.specs.Rounding.{Rounds};
 use draws::{DrawBits, Neighbour, Rule, Source, SourceFault};
 use formats::Split;
 
-/// What an operation answers: the code of the result, and whether it was clamped, which says nothing else of the code.
+/// What an operation answers: the code of the result, and whether it was clamped, which the code alone does not tell.
 #[derive(Clone, Copy, PartialEq, Eq, Debug)]
 pub struct Rounded {
     pub code: u32,
