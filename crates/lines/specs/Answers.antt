@@ -1,5 +1,5 @@
 -- What the fields of a line expect. Assumes nothing.
-use Rattle.std.specs.Prelude.{◌≡◌, ℕ, zero, suc, cond, List, [], ◌∷◌, Some, None, codes, Option}
+use Rattle.std.specs.Prelude.{ℕ, zero, suc, cond, List, [], ◌∷◌, Some, codes, Option}
 use Rattle.std.specs.Str.{bytes_eq}
 use Rattle.lines.specs.declared.answer.Answer.{Answer}
 use Rattle.lines.specs.declared.answer.Answer.TheVariants.{Rounded, Split, Next, Ends, Said, Quotient, Words, Refused}
@@ -88,8 +88,3 @@ answer_fields (Said neighbour) = 1
 answer_fields (Quotient quotient) = 1
 answer_fields (Words words) = 8
 answer_fields (Refused number) = 2
-
--- an answer as it stands, and the fields that it leaves
-abbrev pub Tells : (List (List ℕ) → Option Answer) → List (List ℕ) → List (List ℕ) → Option Answer → Type 0
-Tells read before left (Some answer) = (read before ≡ Some answer) × (left ≡ after (answer_fields answer) before)
-Tells read before left None = read before ≡ None

@@ -1,5 +1,5 @@
 -- The fields of a text. Assumes nothing.
-use Rattle.std.specs.Prelude.{ℕ, zero, suc, Bool, true, false, cond, List, [], ◌∷◌}
+use Rattle.std.specs.Prelude.{◌≡◌, ℕ, zero, suc, Bool, true, false, cond, List, [], ◌∷◌, Some, None, Option}
 use Rattle.lines.specs.Texts.{blank}
 
 -- no byte is left, or a blank is next
@@ -40,3 +40,8 @@ at n fs = first (after n fs)
 abbrev pub is_end : List (List ℕ) → Bool
 is_end [] = true
 is_end (f ∷ fs) = false
+
+-- The value that the first fields write is read, and the fields after these are left; `many` says how many a value takes.
+abbrev pub Reads : {A : Type 0} → (A → ℕ) → (List (List ℕ) → Option A) → List (List ℕ) → List (List ℕ) → Option A → Type 0
+Reads many read before left (Some value) = (read before ≡ Some value) × (left ≡ after (many value) before)
+Reads many read before left None = read before ≡ None

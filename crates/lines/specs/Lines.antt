@@ -8,7 +8,7 @@ use Rattle.lines.specs.declared.vector.Malformed.TheVariants.{Question, Expectat
 use Rattle.lines.specs.declared.vector.Vector.{Vector}
 use Rattle.lines.specs.Answers.{answer_read, answer_fields}
 use Rattle.lines.specs.Fields.{fields, after, at, is_end}
-use Rattle.lines.specs.Queries.{query_read, more_fields}
+use Rattle.lines.specs.Queries.{query_read, query_fields}
 use Rattle.lines.specs.Texts.{then}
 
 -- a line that says nothing: `#` is its first byte, or it has no field
@@ -17,20 +17,19 @@ passed_over line = slice_index line 0 == 35 || is_end (fields line)
 
 -- a query, and `->` after it
 abbrev pub question : List (List ℕ) → Option Query
-question fs = then (query_read fs) (λ query. cond (bytes_eq (at (suc (more_fields query)) fs) (codes "->")) (Some query) None)
+question fs = then (query_read fs) (λ query. cond (bytes_eq (at (query_fields query) fs) (codes "->")) (Some query) None)
 
--- the fields after the `->` that follows a query
+-- how many fields they are
+abbrev pub question_fields : Query → ℕ
+question_fields query = suc (query_fields query)
+
+-- the fields after them
 abbrev pub after_arrow : Query → List (List ℕ) → List (List ℕ)
-after_arrow query fs = after (suc (suc (more_fields query))) fs
+after_arrow query fs = after (question_fields query) fs
 
 -- an answer to a query, and nothing after it
 abbrev pub expectation : Query → List (List ℕ) → Option Answer
 expectation query fs = then (answer_read query fs) (λ answer. cond (is_end (after (answer_fields answer) fs)) (Some answer) None)
-
--- the question as it stands, and the fields that it leaves
-abbrev pub Asked : List (List ℕ) → List (List ℕ) → Option Query → Type 0
-Asked before left (Some query) = (question before ≡ Some query) × (left ≡ after_arrow query before)
-Asked before left None = question before ≡ None
 
 -- A line that is not passed over has a question and an expectation, or the first of these that it lacks is named.
 abbrev pub LineSays : List ℕ → Result (Option Vector) Malformed → Type 0

@@ -1,5 +1,5 @@
 -- What the fields of a line ask. Assumes nothing.
-use Rattle.std.specs.Prelude.{◌≡◌, ℕ, cond, List, Some, None, codes, Option}
+use Rattle.std.specs.Prelude.{ℕ, suc, cond, List, Some, codes, Option}
 use Rattle.std.specs.Str.{bytes_eq}
 use Rattle.formats.specs.declared.split.Calculation.{Calculation}
 use Rattle.lines.specs.declared.query.Query.{Query}
@@ -111,12 +111,6 @@ more_fields (Rule rule k count draw) = 4
 more_fields (Unit mode n k x word) = 5
 more_fields (Generator seed) = 1
 
--- What n fields say is read, and the fields after them are left.
-abbrev pub Reads : {A : Type 0} → ℕ → (List (List ℕ) → Option A) → List (List ℕ) → List (List ℕ) → Option A → Type 0
-Reads n read before left (Some value) = (read before ≡ Some value) × (left ≡ after n before)
-Reads n read before left None = read before ≡ None
-
--- What is asked, and the fields that it leaves of those after its first.
-abbrev pub Asks : Option Query → List (List ℕ) → List (List ℕ) → Option Query → Type 0
-Asks asked more left (Some query) = (asked ≡ Some query) × (left ≡ after (more_fields query) more)
-Asks asked more left None = asked ≡ None
+-- and how many with it
+abbrev pub query_fields : Query → ℕ
+query_fields query = suc (more_fields query)

@@ -19,6 +19,7 @@ pub enum Answer {
         greatest: u32,
     },
     Said(Neighbour),
+    /// Any signed number may stand in the line.
     Quotient(i64),
     Words([u32; 8]),
     /// The number as it stands in the line, where any may stand.

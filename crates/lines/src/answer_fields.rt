@@ -1,8 +1,8 @@
 //! Reading what a line expects.
 ghost use Rattle.std.specs.Prelude.{◌≡◌, codes};
 ghost use Rattle.std.specs.Str.{bytes_eq};
-ghost use Rattle.lines.specs.Answers.{rounded_answer, split_answer, next_answer, ends_answer, said_answer, quotient_answer, words_answer, refused_answer, answer_read, Tells};
-ghost use Rattle.lines.specs.Fields.{first};
+ghost use Rattle.lines.specs.Answers.{rounded_answer, split_answer, next_answer, ends_answer, said_answer, quotient_answer, words_answer, refused_answer, answer_read, answer_fields};
+ghost use Rattle.lines.specs.Fields.{first, Reads};
 
 use crate::answer::Answer;
 use crate::fields::Fields;
@@ -14,7 +14,7 @@ use operations::Rounded;
 
 /// A result and whether it was clamped: `CODE CLAMP`.
 fn rounded(line: &mut Fields) -> Option<Answer>
-    ensures { Tells rounded_answer line.old line.new result }
+    ensures { Reads answer_fields rounded_answer line.old line.new result }
 {
     let code = hexadecimal(line.next()?)?;
     let clamped = clamped(line.next()?)?;
@@ -23,7 +23,7 @@ fn rounded(line: &mut Fields) -> Option<Answer>
 
 /// A split: `NEAR FAR R CLAMP`.
 fn split(line: &mut Fields) -> Option<Answer>
-    ensures { Tells split_answer line.old line.new result }
+    ensures { Reads answer_fields split_answer line.old line.new result }
 {
     let near = hexadecimal(line.next()?)?;
     let far = hexadecimal(line.next()?)?;
@@ -37,7 +37,7 @@ fn split(line: &mut Fields) -> Option<Answer>
 
 /// The codes next to a code: `ABOVE BELOW`.
 fn neighbours(line: &mut Fields) -> Option<Answer>
-    ensures { Tells next_answer line.old line.new result }
+    ensures { Reads answer_fields next_answer line.old line.new result }
 {
     let above = code_unless(line.next()?, b"absent")?;
     let below = code_unless(line.next()?, b"absent")?;
@@ -46,7 +46,7 @@ fn neighbours(line: &mut Fields) -> Option<Answer>
 
 /// The ends of a format: `LEAST GREATEST`.
 fn ends(line: &mut Fields) -> Option<Answer>
-    ensures { Tells ends_answer line.old line.new result }
+    ensures { Reads answer_fields ends_answer line.old line.new result }
 {
     let least = hexadecimal(line.next()?)?;
     let greatest = hexadecimal(line.next()?)?;
@@ -55,7 +55,7 @@ fn ends(line: &mut Fields) -> Option<Answer>
 
 /// What a rule said: `near` or `far`.
 fn said(line: &mut Fields) -> Option<Answer>
-    ensures { Tells said_answer line.old line.new result }
+    ensures { Reads answer_fields said_answer line.old line.new result }
 {
     let neighbour = neighbour(line.next()?)?;
     Some(Answer::Said(neighbour))
@@ -63,7 +63,7 @@ fn said(line: &mut Fields) -> Option<Answer>
 
 /// The quotient of the unit: `ANSWER`.
 fn quotient(line: &mut Fields) -> Option<Answer>
-    ensures { Tells quotient_answer line.old line.new result }
+    ensures { Reads answer_fields quotient_answer line.old line.new result }
 {
     let quotient = signed_decimal(line.next()?)?;
     Some(Answer::Quotient(quotient))
@@ -71,8 +71,9 @@ fn quotient(line: &mut Fields) -> Option<Answer>
 
 /// Eight words of the generator: `W W W W W W W W`.
 fn words(line: &mut Fields) -> Option<Answer>
-    ensures { Tells words_answer line.old line.new result }
+    ensures { Reads answer_fields words_answer line.old line.new result }
 {
+    // what `array::try_from_fn` says of an early end does not tell which fields are left
     let mut words = [0; 8];
     for word in &mut words {
         *word = hexadecimal(line.next()?)?;
@@ -82,7 +83,7 @@ fn words(line: &mut Fields) -> Option<Answer>
 
 /// A refusal: `refused N`.
 fn refusal(line: &mut Fields) -> Option<Answer>
-    ensures { Tells refused_answer line.old line.new result }
+    ensures { Reads answer_fields refused_answer line.old line.new result }
 {
     line.next()?;
     let number = decimal(line.next()?)?;
@@ -98,7 +99,7 @@ fn is_refused(line: &Fields) -> bool
 
 /// What the next fields of a line answer to a query.
 pub(crate) fn read_answer(query: Query, line: &mut Fields) -> Option<Answer>
-    ensures { Tells (answer_read query) line.old line.new result }
+    ensures { Reads answer_fields (answer_read query) line.old line.new result }
 {
     // a question is a value that was read from the line
     match query {

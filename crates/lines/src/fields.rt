@@ -6,7 +6,7 @@ ghost use Rattle.lines.specs.Texts.{blank};
 
 use std::marker::Model;
 
-/// The fields that are still to be read, in their order.
+/// The fields that are still to be read, in their order. (`split` of std would give an empty field between two blanks.)
 #[derive(Drop)]
 pub(crate) struct Fields<'a> {
     rest: &'a [u8],

@@ -5,7 +5,7 @@ ghost use Rattle.lines.specs.Texts.{dot};
 
 use crate::numerals::decimal;
 
-/// How many sign bits, integer bits and fractional bits fixed point has.
+/// How many sign bits, integer bits and fractional bits fixed point has, in range or not: as they stand in the line.
 #[derive(Clone, Copy)]
 pub struct Sizes {
     pub sign: u64,

@@ -1,6 +1,7 @@
 //! Reading one line.
 ghost use Rattle.std.specs.Prelude.{◌≡◌};
-ghost use Rattle.lines.specs.Lines.{passed_over, Asked, expectation, LineSays};
+ghost use Rattle.lines.specs.Fields.{Reads};
+ghost use Rattle.lines.specs.Lines.{passed_over, question, question_fields, expectation, LineSays};
 
 use crate::answer::Answer;
 use crate::answer_fields::read_answer;
@@ -18,7 +19,7 @@ fn is_passed_over(line: &[u8]) -> bool
 
 /// The query, and `->` after it.
 fn asked(line: &mut Fields) -> Option<Query>
-    ensures { Asked line.old line.new result }
+    ensures { Reads question_fields question line.old line.new result }
 {
     let query = read_query(line)?;
     matches!(line.next()?, b"->").then_some(query)

@@ -1,4 +1,5 @@
-//! The names that stand in a line.
+//! The names that stand in a line. They are read by functions: an `impl TryFrom<&[u8]>` may stand here for none of `Operation`,
+//! `Mode` and `Neighbour`, which are types of other crates, and all names are read alike.
 ghost use Rattle.std.specs.Prelude.{◌≡◌};
 ghost use Rattle.std.proofs.Common.{rules};
 ghost use Rattle.lines.specs.Names.{operation_named, rule_named, mode_named, neighbour_named, clamp_named, rule_says, rule_fair};

@@ -5,7 +5,8 @@ use formats::Calculation;
 use unit::Mode;
 
 /// One question: an operation of a format under a rule, its split, the numbers next to a code, the ends of a fixed-point
-/// format, what a rule says, a rounding of the unit, or the first words of the generator.
+/// format, what a rule says, a rounding of the unit, or the first words of the generator. Neither it nor what it holds is compared
+/// or shown, so that none of these types has an impl for that.
 #[derive(Clone, Copy)]
 pub enum Query {
     Operate {

@@ -1,7 +1,7 @@
 //! Reading what a line asks.
 ghost use Rattle.std.specs.Prelude.{◌≡◌};
-ghost use Rattle.lines.specs.Fields.{others};
-ghost use Rattle.lines.specs.Queries.{kind_named, calculation_read, operate_query, split_query, next_query, size_query, rule_query, unit_query, generator_query, query_read, Asks, Reads};
+ghost use Rattle.lines.specs.Fields.{Reads};
+ghost use Rattle.lines.specs.Queries.{kind_named, calculation_read, operate_query, split_query, next_query, size_query, rule_query, unit_query, generator_query, query_read, more_fields, query_fields};
 
 use crate::fields::Fields;
 use crate::format_names::{Sizes, format};
@@ -12,7 +12,7 @@ use formats::Calculation;
 
 /// An operation and the codes that it is asked of: `OP A B`.
 fn calculation(line: &mut Fields) -> Option<Calculation>
-    ensures { Reads 3 calculation_read line.old line.new result }
+    ensures { Reads (λ _. 3) calculation_read line.old line.new result }
 {
     let operation = operation(line.next()?)?;
     let left = hexadecimal(line.next()?)?;
@@ -22,7 +22,7 @@ fn calculation(line: &mut Fields) -> Option<Calculation>
 
 /// An operation of the format of a name under a rule: `K RULE OP A B WORD`.
 fn operate(name: &[u8], line: &mut Fields) -> Option<Query>
-    ensures { Asks (operate_query name.now line.old) line.old line.new result }
+    ensures { Reads more_fields (operate_query name.now) line.old line.new result }
 {
     let format = format(name)?;
     let k = decimal(line.next()?)?;
@@ -40,7 +40,7 @@ fn operate(name: &[u8], line: &mut Fields) -> Option<Query>
 
 /// The split of the exact result of an operation: `FORMAT K OP A B`.
 fn split(line: &mut Fields) -> Option<Query>
-    ensures { Asks (split_query line.old) line.old line.new result }
+    ensures { Reads more_fields split_query line.old line.new result }
 {
     let format = format(line.next()?)?;
     let k = decimal(line.next()?)?;
@@ -54,7 +54,7 @@ fn split(line: &mut Fields) -> Option<Query>
 
 /// The numbers next to a code: `FORMAT CODE`.
 fn neighbours(line: &mut Fields) -> Option<Query>
-    ensures { Asks (next_query line.old) line.old line.new result }
+    ensures { Reads more_fields next_query line.old line.new result }
 {
     let format = format(line.next()?)?;
     let code = hexadecimal(line.next()?)?;
@@ -63,7 +63,7 @@ fn neighbours(line: &mut Fields) -> Option<Query>
 
 /// The ends of a fixed-point format: `S I P`.
 fn size(line: &mut Fields) -> Option<Query>
-    ensures { Asks (size_query line.old) line.old line.new result }
+    ensures { Reads more_fields size_query line.old line.new result }
 {
     let sign = decimal(line.next()?)?;
     let integer = decimal(line.next()?)?;
@@ -77,7 +77,7 @@ fn size(line: &mut Fields) -> Option<Query>
 
 /// What a rule says: `RULE K R DRAW`.
 fn decision(line: &mut Fields) -> Option<Query>
-    ensures { Asks (rule_query line.old) line.old line.new result }
+    ensures { Reads more_fields rule_query line.old line.new result }
 {
     let rule = rule(line.next()?)?;
     let k = decimal(line.next()?)?;
@@ -93,7 +93,7 @@ fn decision(line: &mut Fields) -> Option<Query>
 
 /// A rounding of the unit: `MODE N K X WORD`.
 fn rounding(line: &mut Fields) -> Option<Query>
-    ensures { Asks (unit_query line.old) line.old line.new result }
+    ensures { Reads more_fields unit_query line.old line.new result }
 {
     let mode = mode(line.next()?)?;
     let n = decimal(line.next()?)?;
@@ -111,7 +111,7 @@ fn rounding(line: &mut Fields) -> Option<Query>
 
 /// The first words of the generator: `SEED`.
 fn generator(line: &mut Fields) -> Option<Query>
-    ensures { Asks (generator_query line.old) line.old line.new result }
+    ensures { Reads more_fields generator_query line.old line.new result }
 {
     let seed = short_decimal(line.next()?)?;
     Some(Query::Generator { seed })
@@ -147,7 +147,7 @@ fn kind_of(name: &[u8]) -> Kind
 
 /// What the next fields of a line ask, by the first of them.
 pub(crate) fn read_query(line: &mut Fields) -> Option<Query>
-    ensures { Asks (query_read line.old) (others line.old) line.new result }
+    ensures { Reads query_fields query_read line.old line.new result }
 {
     let name = line.next()?;
     match kind_of(name) {
