@@ -1,5 +1,5 @@
 -- What an operation and a split answer, as it stands in a line. Assumes nothing.
-use Rattle.std.proofs.Common.{◌≡◌, ℕ, Bool, cond, List, [], ◌∷◌, ℤ, Some, None, Ok, Err, Option, Result, sym, ap, ◌∙◌, subst, ap₂, inr, arith}
+use Rattle.std.proofs.Common.{◌≡◌, ℕ, Bool, cond, List, [], ◌∷◌, ℤ, Some, None, Ok, Err, Option, Result, sym, ap, ◌∙◌, subst, ap₂, inr}
 use Rattle.std.specs.Option.{MatchOption}
 use Rattle.std.specs.Result.{IsErrAnd}
 use Rattle.draws.specs.DrawBits.{draw}
@@ -72,7 +72,7 @@ operation_shown coming says M asked k word before later r given h =
     from : (t : Result Rounded OperationFault) → Performs coming says M asked k before later t → shown_result t ≡ by (refusal M asked k) ((coming before).left 1)
     from (Ok t) p = ap A.Rounded p.2 ∙ sym (ap₂ by p.0 p.1)
     from (Err (Format e)) p = sym (ap (λ (o : Option ℕ). by o ((coming before).left 1)) p.0)
-    from (Err (Source e)) p = ap A.Refused p.2 ∙ sym (ap₂ by p.0 p.1)
+    from (Err (Source e)) p = ap A.Refused p.1.1 ∙ sym (ap₂ by p.0 p.1.0)
 
 -- a quotient or a fault, as it stands in a line
 abbrev pub shown_quotient : Result ℤ SourceFault → Answer
@@ -103,9 +103,9 @@ module _ {S : Type 0} (coming : S → Stream) (s : Settings) (n k : ℕ) (x : �
       ap A.Quotient (h.0 ∙ under Stochastic m)
       ∙ sym (ap drawn (subst (λ (o : Mode). Unit.Leaves coming o 1 before later) m h.1).0)
       ∙ from_given
-  quotient_shown Down m (Err e) h = let z : ◌≡◌ {A = ℕ} 0 1 = cc in absurd (omega arith)
-  quotient_shown Nearest m (Err e) h = let z : ◌≡◌ {A = ℕ} 0 1 = cc in absurd (omega arith)
-  quotient_shown Stochastic m (Err e) h = ap A.Refused h.2 ∙ sym (ap drawn h.1) ∙ from_given
+  quotient_shown Down m (Err e) h = absurd (cc)
+  quotient_shown Nearest m (Err e) h = absurd (cc)
+  quotient_shown Stochastic m (Err e) h = ap A.Refused h.1.1 ∙ sym (ap drawn h.1.0) ∙ from_given
 
 -- a rounding of a unit, under settings that were made from these numbers
 pub unit_shown : {S : Type 0} (coming : S → Stream) (t s : Settings) (mode : Mode) (n k : ℕ) (x z : ℤ) (word : Option ℕ) (before later : S) → coming before ≡ source_of word →

@@ -113,3 +113,7 @@ Answers (Q.Size z) = InFormat (Fixed z) EndsAnswer
 Answers (Q.Rule rule k R d) = SaidAnswer (rule_says rule) k R d
 Answers (Q.Unit mode n k x word) = λ a. a ≡ settings_answer (settings_fault (mode_number mode) n k) (unit_answer mode n k x word)
 Answers (Q.Generator seed) = λ a. a ≡ words_answer seed
+
+-- a question has one right answer
+abbrev pub OneAnswer : Query → Type 0
+OneAnswer query = (a b : Answer) → Answers query a → Answers query b → a ≡ b

@@ -1,6 +1,6 @@
 //! The answer to a question.
 ghost use Rattle.fixed.specs.Sized.{format_of};
-ghost use Rattle.answers.specs.Answers.{told, Answers, EndsAnswer, Names};
+ghost use Rattle.answers.specs.Answers.{told, Answers, EndsAnswer, Names, OneAnswer};
 
 use crate::operated::{neighbours, operated, split};
 use crate::refused::Refused;
@@ -68,9 +68,10 @@ fn answered(query: Query) -> Result<Answer, Refused>
     }
 }
 
-/// The right answer to a question.
+/// The right answer to a question, and no question has two.
 pub fn answer(query: Query) -> Answer
-    ensures { Answers query result }
+    ensures right { Answers query result }
+    ensures only { OneAnswer query }
 {
     answered(query).unwrap_or_else(Answer::from)
 }

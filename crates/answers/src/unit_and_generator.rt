@@ -29,6 +29,7 @@ pub(crate) fn first_words(seed: u32) -> Answer
     ensures { result ≡ words_answer seed }
 {
     let mut generator = Generator::new(seed);
+    // with `array::from_fn` the goal stayed open
     let mut words = [0; 8];
     for word in &mut words {
         *word = generator.next_word();

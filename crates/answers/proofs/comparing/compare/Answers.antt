@@ -6,4 +6,4 @@ pub returns-then-eq : goal.returns-then-eq
 returns-then-eq c =
     let v = c.in-Ok-Some.vector in
     let same : c.answer-right.result ≡ v.expected = search rules in
-    (v, search rules, subst (Answers v.query) same c.answer-right.ensures)
+    (v, search rules, subst (Answers v.query) same c.answer-right.ensures.right)

@@ -15,7 +15,7 @@ loop-word-preserved c =
     let i : ℕ = c.loop-word.word-index in
     let so_far = c.loop-word.invariant in
     let more : suc i ≡ i + 1 = omega arith in
-    let next : stepped c.loop-word.generator.state ≡ after c.args.seed (i + 1) = ap stepped so_far.state ∙ step_after c.args.seed i ∙ ap (after c.args.seed) more in
+    let next : stepped c.loop-word.generator ≡ after c.args.seed (i + 1) = ap stepped so_far.state ∙ step_after c.args.seed i ∙ ap (after c.args.seed) more in
     let words : List ℕ = map (after c.args.seed) (range_with_len 1 i) in
     let within : i < 8 = omega (arith, c.loop-word-test.true) in
     record {

@@ -8,7 +8,7 @@ decreases-loop-word l = 8 - l.word-index
 
 abbrev pub invariant-loop-word : goal.invariant-loop-word
 invariant-loop-word l = record {
-  state : l.generator.state ≡ after l.fn.seed l.word-index;
+  state : l.generator ≡ after l.fn.seed l.word-index;
   long : length l.word-items ≡ 8;
   taken : take l.word-index l.word-items ≡ map (after l.fn.seed) (range_with_len 1 l.word-index);
 }
