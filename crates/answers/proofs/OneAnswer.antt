@@ -1,12 +1,12 @@
 -- No question has two right answers. Assumes nothing.
-use Rattle.std.proofs.Common.{◌≡◌, ℕ, Bool, true, false, Some, None, Ok, Option, sym, refl, ap, ◌∙◌, ap₂, inl, inr, arith}
-use Rattle.std.proofs.lemmas.Int.{ints}
+use Rattle.std.proofs.Common.{◌≡◌, ℕ, true, Some, None, Ok, Option, sym, refl, ap, ◌∙◌, ap₂, inl, inr}
+use Rattle.std.proofs.lemmas.Bool.{false≢true, true≢false}
 use Rattle.draws.specs.declared.rules.Neighbour.{Neighbour}
 use Rattle.draws.specs.declared.rules.Neighbour.TheVariants.{Near, Far}
 use Rattle.draws.specs.Rules.{is_far}
 use Rattle.formats.specs.Meaning.{Meaning}
-use Rattle.formats.specs.Questions.{AnswersAbove, AnswersBelow}
-use Rattle.formats.proofs.Uniqueness.{greatest_only, least_only, next_above_only, next_below_only}
+use Rattle.formats.specs.Questions.{AnswersAbove}
+use Rattle.formats.proofs.Uniqueness.{greatest_only, least_only, above_only, below_only}
 use Rattle.lines.specs.declared.answer.Answer.{Answer}
 use Rattle.lines.specs.declared.answer.Answer.TheVariants as A
 use Rattle.lines.specs.declared.format_names.FormatName.{FormatName}
@@ -14,24 +14,6 @@ use Rattle.lines.specs.declared.format_names.FormatName.TheVariants.{Fixed}
 use Rattle.lines.specs.declared.query.Query.{Query}
 use Rattle.lines.specs.declared.query.Query.TheVariants as Q
 use Rattle.answers.specs.Answers.{InFormat, NextAnswer, EndsAnswer, OneAnswer}
-
--- a truth value is not both
-apart : {t : Bool} → t ≡ false → t ≡ true → ⊥
-apart g h = cc
-
--- the number above a code is one
-above_only : (M : Meaning) (c : ℕ) (a b : Option ℕ) → AnswersAbove M c (Ok a) → AnswersAbove M c (Ok b) → a ≡ b
-above_only M c (Some d) (Some e) g h = ap Some (g.3 ∙ ap M.result (next_above_only M (M.value c) g.1 h.1 g.2 h.2) ∙ sym h.3)
-above_only M c (Some d) None g h = absurd (omega (arith, ints, g.2.larger, h.1.most g.1 g.2.attained))
-above_only M c None (Some e) g h = absurd (omega (arith, ints, h.2.larger, g.1.most h.1 h.2.attained))
-above_only M c None None g h = refl
-
--- and so is the number below it
-below_only : (M : Meaning) (c : ℕ) (a b : Option ℕ) → AnswersBelow M c (Ok a) → AnswersBelow M c (Ok b) → a ≡ b
-below_only M c (Some d) (Some e) g h = ap Some (g.3 ∙ ap M.result (next_below_only M (M.value c) g.1 h.1 g.2 h.2) ∙ sym h.3)
-below_only M c (Some d) None g h = absurd (omega (arith, ints, g.2.smaller, h.1.least g.1 g.2.attained))
-below_only M c None (Some e) g h = absurd (omega (arith, ints, h.2.smaller, g.1.least h.1 h.2.attained))
-below_only M c None None g h = refl
 
 -- what has a next number above it, or none, is a number
 is_number : (M : Meaning) (c : ℕ) (above : Option ℕ) → AnswersAbove M c (Ok above) → M.number c ≡ true
@@ -41,8 +23,8 @@ is_number M c None h = h.0
 -- a code that is no number is refused, and one that is has one pair of next numbers
 next_only : (M : Meaning) (c : ℕ) (a b : Answer) → NextAnswer M c a → NextAnswer M c b → a ≡ b
 next_only M c a b (inl g) (inl h) = g.1 ∙ sym h.1
-next_only M c a b (inl g) (inr h) = absurd (apart g.0 (is_number M c h.0 h.2))
-next_only M c a b (inr g) (inl h) = absurd (apart h.0 (is_number M c g.0 g.2))
+next_only M c a b (inl g) (inr h) = absurd (false≢true (sym g.0 ∙ is_number M c h.0 h.2))
+next_only M c a b (inr g) (inl h) = absurd (false≢true (sym h.0 ∙ is_number M c g.0 g.2))
 next_only M c a b (inr g) (inr h) =
     g.4 ∙ ap₂ A.Next (above_only M c g.0 h.0 g.2 h.2) (below_only M c g.1 h.1 g.3 h.3) ∙ sym h.4
 
@@ -56,18 +38,19 @@ ends_only M a b g h =
 -- a rule says one of two
 same_side : (m n : Neighbour) → is_far m ≡ is_far n → m ≡ n
 same_side Near Near e = refl
-same_side Near Far e = absurd (apart refl e)
-same_side Far Near e = absurd (apart refl (sym e))
+same_side Near Far e = absurd (false≢true e)
+same_side Far Near e = absurd (true≢false e)
 same_side Far Far e = refl
 
 -- what has one right answer in each format has one in a format of a name
 in_format_only : (format : FormatName) (right : Meaning → Answer → Type 0) → ((M : Meaning) (a b : Answer) → right M a → right M b → a ≡ b) →
     (a b : Answer) → InFormat format right a → InFormat format right b → a ≡ b
 in_format_only (Fixed z) right only a b (inl g) (inl h) = g.1 ∙ sym h.1
-in_format_only (Fixed z) right only a b (inl g) (inr h) = absurd (apart g.0 h.0)
-in_format_only (Fixed z) right only a b (inr g) (inl h) = absurd (apart h.0 g.0)
+in_format_only (Fixed z) right only a b (inl g) (inr h) = absurd (false≢true (sym g.0 ∙ h.0))
+in_format_only (Fixed z) right only a b (inr g) (inl h) = absurd (false≢true (sym h.0 ∙ g.0))
 in_format_only (Fixed z) right only a b (inr g) (inr h) = only _ a b g.1 h.1
 
+-- kind by kind: most right answers are equated with one
 pub one_answer : (query : Query) → OneAnswer query
 one_answer (Q.Operate format k rule asked word) a b g h = in_format_only format _ (λ M c d p q. p ∙ sym q) a b g h
 one_answer (Q.Split format k asked) a b g h = in_format_only format _ (λ M c d p q. p ∙ sym q) a b g h

@@ -1,5 +1,5 @@
--- An exact result has at most one split. Assumes nothing.
-use Rattle.std.proofs.Common.{◌≡◌, ℕ, ℤ, ◌≤ℤ◌, ◌<ℤ◌, sym, ap, ◌∙◌, ap₂, arith}
+-- An exact result has at most one split, and a code at most one number next above it and one next below. Assumes nothing.
+use Rattle.std.proofs.Common.{◌≡◌, ℕ, ℤ, ◌≤ℤ◌, ◌<ℤ◌, Some, None, Ok, Option, sym, refl, ap, ◌∙◌, ap₂, arith}
 use lib.Signed.{clash_ℤ}
 use Rattle.std.proofs.lemmas.Int.{ints}
 use Rattle.whole.proofs.Integers.{cancel-<}
@@ -7,6 +7,7 @@ use Rattle.formats.specs.declared.split.Split.{Split}
 use Rattle.formats.specs.Meaning.{Meaning}
 use Rattle.formats.specs.Exact.{Exact}
 use Rattle.formats.specs.Neighbours.{Greatest, Least, NextAbove, NextBelow, Neighbours, Under, Over, AtMost, AtLeast}
+use Rattle.formats.specs.Questions.{AnswersAbove, AnswersBelow}
 use Rattle.formats.specs.Splits.{Splits, above, under, within, clamped_at, between}
 
 -- two values that are at most each other are one
@@ -26,6 +27,19 @@ next_above_only M z v w g h = level v w (g.nearest w h.attained h.larger) (h.nea
 
 pub next_below_only : (M : Meaning) (z v w : ℤ) → NextBelow M z v → NextBelow M z w → v ≡ w
 next_below_only M z v w g h = level v w (h.nearest v g.attained g.smaller) (g.nearest w h.attained h.smaller)
+
+-- so what a format answers above a code is one, and below it
+pub above_only : (M : Meaning) (c : ℕ) (a b : Option ℕ) → AnswersAbove M c (Ok a) → AnswersAbove M c (Ok b) → a ≡ b
+above_only M c (Some d) (Some e) g h = ap Some (g.3 ∙ ap M.result (next_above_only M (M.value c) g.1 h.1 g.2 h.2) ∙ sym h.3)
+above_only M c (Some d) None g h = absurd (omega (arith, ints, g.2.larger, h.1.most g.1 g.2.attained))
+above_only M c None (Some e) g h = absurd (omega (arith, ints, h.2.larger, g.1.most h.1 h.2.attained))
+above_only M c None None g h = refl
+
+pub below_only : (M : Meaning) (c : ℕ) (a b : Option ℕ) → AnswersBelow M c (Ok a) → AnswersBelow M c (Ok b) → a ≡ b
+below_only M c (Some d) (Some e) g h = ap Some (g.3 ∙ ap M.result (next_below_only M (M.value c) g.1 h.1 g.2 h.2) ∙ sym h.3)
+below_only M c (Some d) None g h = absurd (omega (arith, ints, g.2.smaller, h.1.least g.1 g.2.attained))
+below_only M c None (Some e) g h = absurd (omega (arith, ints, h.2.smaller, g.1.least h.1 h.2.attained))
+below_only M c None None g h = refl
 
 -- an exact result has one pair of neighbours
 pub neighbours_only : (M : Meaning) (x : Exact) (lo hi lo' hi' : ℤ) → Neighbours M x lo hi → Neighbours M x lo' hi' → (lo ≡ lo') × (hi ≡ hi')
