@@ -1,2 +1,3 @@
 pub mod Answering
+pub mod Machine
 pub mod Places

@@ -40,11 +40,16 @@ impl Fraction {
         ensures divided { Divided self.numerator self.denominator result.0 result.1.part }
     {
         let whole = self.denominator;
-        let divisor = i128::from(whole);
-        let floor = self.numerator.div_euclid(divisor);
-        // below the divisor
-        let part = self.numerator.rem_euclid(divisor) as u64;
-        (floor, Part { part, whole })
+        // each size is below 2^64, so that it is divided in 64 bits
+        if self.numerator >= 0 {
+            let size = self.numerator as u64;
+            let part = size % whole;
+            (i128::from(size / whole), Part { part, whole })
+        } else {
+            let size = (-1 - self.numerator) as u64;
+            let part = whole - 1 - size % whole;
+            (-1 - i128::from(size / whole), Part { part, whole })
+        }
     }
 }
 

@@ -1,7 +1,7 @@
 //! Fixed point: s sign bits, i integer bits and p fractional bits, 2 to 32 in all, written s8.7 or u0.32.
 //!
 //! `Fixed` cannot have other sizes. It is a `Format`: its numbers are the codes below 2^(s+i+p), in two's complement where s is 1, its
-//! unit is 2^-p, and near is the lower neighbour. A split is integer arithmetic without loops: one product and three divisions at most.
+//! unit is 2^-p, and near is the lower neighbour. Splits are straight-line integer arithmetic: one product and two divisions at most.
 #![tactic(auto)]
 
 mod exact;
