@@ -40,6 +40,7 @@ impl Format for Fixed {
         Ok(self.number(code)?.moved_code(-1))
     }
 
+    #[inline(always)]
     fn split(&self, calculation: Calculation, k: u64) -> Result<Split, FormatFault> {
         let k = DrawBits::new(k)?;
         let left = self.number(calculation.left)?;

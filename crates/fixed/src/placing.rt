@@ -23,6 +23,7 @@ fn clamped_at(end: Number) -> Split
 
 impl Number {
     /// The split of what lies a part of a unit above this number.
+    #[inline(always)]
     fn split_above(self, above: Part, k: DrawBits) -> Split
         ensures { (n : ℤ) → Divided n above.whole self.value above.part → Splits (format_of self.format) k.bits (record { numerator = n; denominator = above.whole }) result }
     {
@@ -45,6 +46,7 @@ impl Number {
 
 impl Fixed {
     /// The split of a fraction of units. 0 is a number of every format, so the sign of a floor that is beyond an end tells which.
+    #[inline(always)]
     pub(crate) fn place(self, k: DrawBits, x: Fraction) -> Split
         ensures { Splits (format_of self) k.bits x result }
     {

@@ -54,6 +54,7 @@ impl<F: Format> Format for &F {
         F::next_below(*self, code)
     }
 
+    #[inline(always)]
     fn split(&self, calculation: Calculation, k: u64) -> Result<Split, FormatFault> {
         F::split(*self, calculation, k)
     }

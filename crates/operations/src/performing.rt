@@ -18,6 +18,7 @@ pub struct Arithmetic<F, R> {
 
 impl<F: Format, R: Rule> Arithmetic<F, R> {
     /// The format's split of the exact result. Its laws leave only one: that is proved here, since it did not prove in `perform`.
+    #[inline(always)]
     #[tactic(auto, using(crate::proofs::Means::splits_once))]
     fn split(&self, calculation: Calculation) -> Result<Split, FormatFault>
         ensures { SplitsOnce (F.meaning self.now.format) calculation self.now.k result }
@@ -27,6 +28,7 @@ impl<F: Format, R: Rule> Arithmetic<F, R> {
 
     /// One operation on two numbers of the format. It takes one word, also where the exact result is a number or beyond an end. Refuses
     /// a k that is not 1 to 32, a left and then a right code that is no number, a divisor of value 0, and a source with no word left.
+    #[inline(always)]
     #[tactic(auto, using(crate::proofs::Means::operation_laws))]
     pub fn perform<S: Source>(
         &self,
