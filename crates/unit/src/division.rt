@@ -7,10 +7,10 @@ use crate::settings::Settings;
 
 impl Settings {
     /// The floor of x / 2^n, and what x is above 2^n times that.
-    pub(crate) fn floor_and_rest(self, x: i64) -> (i64, u64)
-        ensures floor { result.0 ≡ floor x (2 ^ self.n) }
-        ensures rest { result.1 ≡ modulo x (2 ^ self.n) }
-        ensures below { result.1 < 2 ^ self.n }
+    pub(crate) fn floor_and_rest(&self, x: i64) -> (i64, u64)
+        ensures floor { result.0 ≡ floor x (2 ^ self.now.n) }
+        ensures rest { result.1 ≡ modulo x (2 ^ self.now.n) }
+        ensures below { result.1 < 2 ^ self.now.n }
         ensures room { result.0 <ℤ pos (2 ^ 62) }
     {
         let n = self.shift();
@@ -19,8 +19,8 @@ impl Settings {
     }
 
     /// The whole number nearest to x / 2^n, the upper one of two.
-    pub(crate) fn nearest(self, x: i64) -> i64
-        ensures { result ≡ floor (x +ℤ pos (2 ^ (self.n - 1))) (2 ^ self.n) }
+    pub(crate) fn nearest(&self, x: i64) -> i64
+        ensures { result ≡ floor (x +ℤ pos (2 ^ (self.now.n - 1))) (2 ^ self.now.n) }
     {
         let (floor, rest) = self.floor_and_rest(x);
         let half = 1 << (self.shift() - 1);
@@ -28,9 +28,9 @@ impl Settings {
     }
 
     /// How many of the 2^k draws go up where x is `rest` above 2^n times its floor. It shifts, where fixed point divides.
-    pub(crate) fn far_count(self, rest: u64) -> u64
-        requires { rest < 2 ^ self.n }
-        ensures { result ≡ 2 ^ self.k.bits * rest / 2 ^ self.n }
+    pub(crate) fn far_count(&self, rest: u64) -> u64
+        requires { rest < 2 ^ self.now.n }
+        ensures { result ≡ 2 ^ self.now.k.bits * rest / 2 ^ self.now.n }
     {
         (rest << self.draw_bits().get()) >> self.shift()
     }

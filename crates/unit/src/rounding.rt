@@ -11,8 +11,8 @@ use std::marker::Model;
 
 impl Settings {
     /// The floor of x / 2^n or the next whole number, as the draw of the next word decides.
-    fn drawn_quotient<S: Source>(self, x: i64, source: &mut S) -> Result<i64, SourceFault>
-        ensures { DrawsQuotient S.coming self.n self.k.bits x source.old source.new result }
+    fn drawn_quotient<S: Source>(&self, x: i64, source: &mut S) -> Result<i64, SourceFault>
+        ensures { DrawsQuotient S.coming self.now.n self.now.k.bits x source.old source.new result }
     {
         let (floor, rest) = self.floor_and_rest(x);
         let count = self.far_count(rest);
@@ -23,8 +23,8 @@ impl Settings {
     }
 
     /// x / 2^n under these settings. `RoundingUnit::round` is this, with its laws; in one function with them it did not prove.
-    fn rounded<S: Source>(self, x: i64, source: &mut S) -> Result<i32, SourceFault>
-        ensures { Rounds S.coming self x source.old source.new result }
+    fn rounded<S: Source>(&self, x: i64, source: &mut S) -> Result<i32, SourceFault>
+        ensures { Rounds S.coming self.now x source.old source.new result }
     {
         // a mode is a value that is stored, compared and printed, which no closure can be
         let quotient = match self.mode() {

@@ -7,7 +7,7 @@ use Rattle.unit.proofs.settings.Settings.floor_and_rest.Goals as goal
 pub returns-clause-rest : goal.returns-clause-rest
 returns-clause-rest c =
     let x = c.args.x in
-    let s = c.args.self in
+    let s = c.args.self.now in
     let x_read = to_z-of_z w64 x c.ranges.x in
     let mask = one_shl s.n 64 (omega (arith, s.high)) in
     let low = low_bits x s.n s.high c.ranges.x in
@@ -16,5 +16,5 @@ returns-clause-rest c =
 pub returns-clause-room : goal.returns-clause-room
 returns-clause-room c =
     let x = c.args.x in
-    let s = c.args.self in
+    let s = c.args.self.now in
     rw (c.shift-n.ensures.value, shifted x (2 ^ s.n) c.ranges.x) (floor_room x s.n s.low c.ranges.x)

@@ -8,7 +8,7 @@ use Rattle.unit.proofs.settings.Settings.nearest.Goals as goal
 pub returns-then-rest-half : goal.returns-then-rest-half
 returns-then-rest-half c =
     let x = c.args.x in
-    let s = c.args.self in
+    let s = c.args.self.now in
     let (q, r) = c.floor_and_rest-floor.result in
     let x_read = to_z-of_z w64 x c.ranges.x in
     let q_read = to_z-of_z w64 q (search rules) in
@@ -20,7 +20,7 @@ returns-then-rest-half c =
 pub returns-else-rest-half : goal.returns-else-rest-half
 returns-else-rest-half c =
     let x = c.args.x in
-    let s = c.args.self in
+    let s = c.args.self.now in
     let (q, r) = c.floor_and_rest-floor.result in
     let x_read = to_z-of_z w64 x c.ranges.x in
     let q_read = to_z-of_z w64 q (search rules) in
