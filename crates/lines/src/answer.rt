@@ -62,10 +62,12 @@ impl fmt::Display for Answer {
             Answer::Said(neighbour) => write!(f, "{neighbour}"),
             Answer::Quotient(quotient) => write!(f, "{quotient}"),
             Answer::Words(words) => {
-                let mut blank = "";
-                for word in words {
-                    write!(f, "{blank}{word:#010x}")?;
-                    blank = " ";
+                // the first has no blank before it
+                if let [first, others @ ..] = words.as_slice() {
+                    write!(f, "{first:#010x}")?;
+                    for word in others {
+                        write!(f, " {word:#010x}")?;
+                    }
                 }
                 Ok(())
             }
