@@ -67,7 +67,7 @@ impl fmt::Display for DrawBitsFault {
     ghost output = { λ fault. Some (refused_by (draw_bits_refusal fault)) };
 
     fn fmt<W: fmt::Write>(&self, f: &mut fmt::Formatter<W>) -> fmt::Result {
-        write!(f, "refused by {}", self.number())
+        f.write_str(self.text())
     }
 }
 

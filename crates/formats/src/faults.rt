@@ -45,7 +45,7 @@ impl fmt::Display for FormatFault {
     ghost output = { λ fault. Some (refused_by (format_refusal fault)) };
 
     fn fmt<W: fmt::Write>(&self, f: &mut fmt::Formatter<W>) -> fmt::Result {
-        write!(f, "refused by {}", self.number())
+        f.write_str(self.text())
     }
 }
 
